@@ -1,0 +1,23 @@
+use Rattle.std.proofs.Common.{◌∙◌, subst}
+use Rattle.plain_machine.specs.Lines.{lines_of}
+use Rattle.plain_machine.specs.PlainForm.{Spells}
+use Rattle.plain_machine.specs.World.{load}
+use Rattle.plain_machine.specs.Outcome.{Plays, HasGraph}
+use Rattle.edge_io.specs.Files.{HoldsWithin}
+use Rattle.plain_machine.specs.declared.limits.TheConstants.{SCRIPT_LIMIT}
+use Rattle.lemon_desk.proofs.Played.{played}
+use Rattle.lemon_desk.proofs.serve.run_files.Goals as goal
+
+pub returns-clause-ends : goal.returns-clause-ends
+returns-clause-ends g c = λ files told.
+    let read = c.in-Ok.ensures in
+    let again = c.in-Ok-read_whole.ensures in
+    let labels = c.in-Ok-read_graph.labels.keys in
+    let text = c.in-Ok-read_whole.text.items in
+    let graph : HasGraph files c.args.graph.now labels =
+    (c.in-Ok.bytes.items, (read.bytes files told, read.within), subst (λ b. Spells b labels) c.as_slice.ensures.value c.in-Ok-read_graph.ensures.found) in
+    let script : HoldsWithin files c.args.script.now SCRIPT_LIMIT text = (again.bytes files (read.same ∙ told), again.within) in
+    let plays = c.run_script.ensures.plays in
+    let on = subst (λ w. Plays w (lines_of c.as_slice-2.result.now) plays.0 c.run_script.result) c.in-Ok-load.ensures plays.2 in
+    let whole = subst (λ t. Plays (load labels) (lines_of t) plays.0 c.run_script.result) c.as_slice-2.ensures.value on in
+    (plays.0, plays.1, played files c.args.graph.now c.args.script.now plays.0 c.run_script.result (labels, text, graph, script, whole))

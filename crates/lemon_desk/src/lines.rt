@@ -1,0 +1,71 @@
+//! Lines, as a file has them, and words.
+
+ghost use Rattle.std.specs.Prelude.{◌≡◌, ◌<◌, ◌∷◌, ◌++◌, [], length, IfSome, IfNone};
+ghost use Rattle.std.specs.List.{list_all};
+ghost use Rattle.plain_machine.specs.Lines as lines;
+ghost use Rattle.lemon_desk.specs.LineEnds.{HasNoEnd};
+
+/// The first line without its end, and what follows the end. None exactly where no line is ended.
+pub fn split_line(bytes: &[u8]) -> Option<(&[u8], &[u8])>
+    ensures line { IfSome result (λ parts. (bytes.now ≡ parts.0.now ++ 10 ∷ parts.1.now) × HasNoEnd parts.0.now) }
+    ensures none { IfNone result (HasNoEnd bytes.now) }
+{
+    for i in 0..bytes.len() {
+        if bytes[i] == b'\n' {
+            return Some((&bytes[..i], &bytes[i + 1..]));
+        }
+    }
+    None
+}
+
+/// The first line without its end, which the last line may lack, and what follows. None exactly at
+/// the end of the bytes.
+pub fn next_line(bytes: &[u8]) -> Option<(&[u8], &[u8])>
+    ensures line { IfSome result (λ parts. lines.lines_of bytes.now ≡ parts.0.now ∷ lines.lines_of parts.1.now) }
+    ensures less { IfSome result (λ parts. length parts.1.now < length bytes.now) }
+    ensures none { IfNone result (bytes.now ≡ []) }
+{
+    if bytes.is_empty() {
+        return None;
+    }
+    match split_line(bytes) {
+        Some((line, after)) => Some((line, after)),
+        None => Some((bytes, &[])),
+    }
+}
+
+/// Whether the bytes are a word.
+pub fn is_word(bytes: &[u8]) -> bool
+    ensures { result ≡ lines.is_word bytes.now }
+{
+    if bytes.is_empty() {
+        return false;
+    }
+    let first = bytes[0];
+    if first == b'#' || first == b'@' {
+        return false;
+    }
+    has_word_bytes(bytes)
+}
+
+fn has_word_bytes(bytes: &[u8]) -> bool
+    ensures { result ≡ list_all lines.is_word_byte bytes.now }
+{
+    bytes.iter().all(|byte| is_word_byte(*byte))
+}
+
+fn is_word_byte(byte: u8) -> bool
+    ensures { result ≡ lines.is_word_byte byte }
+{
+    33 <= byte && byte <= 126 && byte != b'"' && byte != b'\\'
+}
+
+/// Whether the line is empty or a comment.
+pub fn is_passed_over(line: &[u8]) -> bool
+    ensures { result ≡ lines.is_passed_over line.now }
+{
+    match line {
+        [] => true,
+        [first, ..] => *first == b'#',
+    }
+}

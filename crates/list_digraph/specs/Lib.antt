@@ -1,0 +1,3 @@
+pub mod Falling
+pub mod Rows
+pub mod Refusals

@@ -1,0 +1,73 @@
+//! The laws of the digraph and of its plain steps. A function here has no code: its contract is the law.
+
+ghost use Rattle.plain_digraph.specs.Laws as laws;
+
+/// The empty digraph is valid.
+pub fn empty_is_valid()
+    ensures { laws.EmptyIsValid }
+{}
+
+/// A valid digraph stays valid where a node is added and there is room for it.
+pub fn added_node_is_valid()
+    ensures { laws.AddedNodeIsValid }
+{}
+
+/// A valid digraph stays valid where an arc is added between nodes and there is room for it.
+pub fn added_arc_is_valid()
+    ensures { laws.AddedArcIsValid }
+{}
+
+/// In a valid digraph no id stands twice in the list of nodes, nor in either list of arcs.
+pub fn live_ids_differ()
+    ensures { laws.LiveIdsDiffer }
+{}
+
+/// In a valid digraph each live id is below the number of ids used.
+pub fn live_ids_are_used()
+    ensures { laws.LiveIdsAreUsed }
+{}
+
+/// Something is told of exactly the live items.
+pub fn live_items_are_told()
+    ensures { laws.LiveItemsAreTold }
+{}
+
+/// The list of all facts has what is told of each live item, and nothing else.
+pub fn facts_are_whole()
+    ensures { laws.FactsAreWhole }
+{}
+
+/// The facts stand by rising id.
+pub fn facts_rise()
+    ensures { laws.FactsRise }
+{}
+
+/// There are as many facts as live items.
+pub fn facts_are_counted()
+    ensures { laws.FactsAreCounted }
+{}
+
+/// The id of an added node wasn't live, and what is told of it has the stamp that was next.
+pub fn added_node_fact()
+    ensures { laws.AddedNodeFact }
+{}
+
+/// The id of an added arc wasn't live, and what is told of it has its ends and the stamp that was next.
+pub fn added_arc_fact()
+    ensures { laws.AddedArcFact }
+{}
+
+/// An added arc stands in front of the others from its source, and of the others to its target.
+pub fn added_arc_is_first()
+    ensures { laws.AddedArcIsFirst }
+{}
+
+/// An added node leaves all other items as they were.
+pub fn added_node_keeps()
+    ensures { laws.AddedNodeKeeps }
+{}
+
+/// An added arc leaves all other items as they were.
+pub fn added_arc_keeps()
+    ensures { laws.AddedArcKeeps }
+{}
