@@ -1,45 +1,35 @@
--- The world that the nodes of a graph file make.
-use Rattle.std.proofs.Common.{◌≡◌, ℕ, ◌+◌, ◌<◌, List, [], ◌∷◌, ◌++◌, length, take, reverse, get_or, refl, sym, ap, ◌∙◌, arith, append_assoc}
+-- The world that a graph file makes.
+use Rattle.std.proofs.Common.{◌≡◌, ℕ, suc, ◌+◌, List, [], ◌∷◌, ◌++◌, length, reverse, refl, sym, ap, ◌∙◌, arith, append_assoc, add-zero, add-one, zero-add, subst}
+use Rattle.std.specs.Fmt.{decimal}
 use Rattle.std.specs.FinMap as fin
-use Rattle.std.proofs.lemmas.List.{length-reverse, reverse-append, take_more, append-nil}
-use Rattle.plain_digraph.specs.Lists.{all_but_first}
-use Rattle.plain_digraph.specs.Steps.{next_id, used_after}
-use Rattle.plain_machine.specs.World.{World, empty, add_node, add_nodes, load}
-use Rattle.list_digraph.specs.Falling.{falling, newest_first}
+use Rattle.std.proofs.lemmas.List.{length-reverse, reverse-append, reverse-reverse, append-nil}
+use Rattle.plain_digraph.specs.Digraph.{Digraph}
+use Rattle.plain_digraph.specs.Steps as steps
+use Rattle.plain_machine.specs.declared.links.Link.{Link}
+use Rattle.plain_machine.specs.World.{World, empty, add_node, add_nodes, add_arc, add_links, load}
+use Rattle.lemon_desk.specs.Loaded.{with_nodes, with_links, decimals}
+use Rattle.lemon_desk.proofs.Named.{seen, seen_world, seen-push}
+use Rattle.lemon_desk.proofs.Counted.{IsCounted, nodes_counted, arc_counted, length-decimals}
+
+-- ---- nodes
 
 -- the nodes of a list, of which the last is added first
 abbrev built : List (List ℕ) → World
 built [] = empty
 built (label ∷ labels) = add_node (built labels) label
 
--- each node has the number of the nodes before it
-pub record IsNumbered (world : World) (size : ℕ) : Type 0 where
-  pub none_free : world.graph.free_nodes ≡ []
-  pub used : world.graph.used_nodes ≡ size
-  pub counted : length world.graph.nodes ≡ size
-  pub stamps : world.graph.stamps ≡ size
-
-built_numbered : (labels : List (List ℕ)) → IsNumbered (built labels) (length labels)
-built_numbered [] = record { none_free = refl; used = refl; counted = refl; stamps = refl }
-built_numbered (label ∷ labels) =
-    let was = built_numbered labels in
-    let graph = (built labels).graph in
-    record {
-      none_free = ap all_but_first was.none_free;
-      used = omega (arith, was.used, ap (λ free. used_after free graph.used_nodes) was.none_free);
-      counted = omega (arith, was.counted);
-      stamps = omega (arith, was.stamps);
-    }
-
-built_labels : (labels : List (List ℕ)) → (built labels).node_labels ≡ fin.from_entries (falling labels)
-built_labels [] = refl
-built_labels (label ∷ labels) =
-    let was = built_numbered labels in
-    let graph = (built labels).graph in
-    let new : next_id graph.free_nodes graph.used_nodes ≡ length labels =
-    ap (λ free. next_id free graph.used_nodes) was.none_free ∙ was.used in
-    ap (λ known. fin.insert known (next_id graph.free_nodes graph.used_nodes) label) (built_labels labels)
-    ∙ ap (λ id. fin.insert (fin.from_entries (falling labels)) id label) new
+built_seen : (labels : List (List ℕ)) → built labels ≡ seen_world (with_nodes (length labels)) (reverse labels) []
+built_seen [] = refl
+built_seen (label ∷ labels) =
+    let size = length labels in
+    let g = with_nodes size in
+    let counted = nodes_counted size in
+    let used = counted.used_nodes ∙ sym (length-reverse labels) in
+    let put : fin.insert (seen (reverse labels)) (steps.new_node g) label ≡ seen (reverse (label ∷ labels)) =
+    sym (ap seen (reverse-append (label ∷ []) labels) ∙ seen-push (reverse labels) label g.free_nodes g.used_nodes counted.no_free_node used) in
+    let now : add_node (seen_world g (reverse labels) []) label ≡ seen_world (with_nodes (suc size)) (reverse (label ∷ labels)) [] =
+    λ i. record { graph = steps.add_node g; node_labels = put i; arc_labels = seen [] } in
+    ap (λ (w : World). add_node w label) (built_seen labels) ∙ now
 
 add_nodes-built : (labels others : List (List ℕ)) → add_nodes (built others) labels ≡ built (reverse labels ++ others)
 add_nodes-built [] others = refl
@@ -48,25 +38,45 @@ add_nodes-built (label ∷ labels) others =
     ap (λ xs. xs ++ others) (reverse-append (label ∷ []) labels) ∙ append_assoc (reverse labels) (label ∷ []) others in
     add_nodes-built labels (label ∷ others) ∙ ap built (sym last)
 
-load-built : (labels : List (List ℕ)) → load labels ≡ built (reverse labels)
-load-built labels = add_nodes-built labels [] ∙ ap built (append-nil (reverse labels))
+nodes_loaded : (labels : List (List ℕ)) → add_nodes empty labels ≡ seen_world (with_nodes (length labels)) labels []
+nodes_loaded labels =
+    add_nodes-built labels [] ∙ ap built (append-nil (reverse labels)) ∙ built_seen (reverse labels)
+    ∙ ap (λ n. seen_world (with_nodes n) (reverse (reverse labels)) []) (length-reverse labels)
+    ∙ ap (λ xs. seen_world (with_nodes (length labels)) xs []) (reverse-reverse labels)
 
-pub load_numbered : (labels : List (List ℕ)) → IsNumbered (load labels) (length labels)
-load_numbered labels =
-    let size = length-reverse labels in
-    let is = load-built labels in
-    rw (is, ← size) (built_numbered (reverse labels))
+-- ---- arcs
 
-pub load_labels : (labels : List (List ℕ)) → (load labels).node_labels ≡ fin.from_entries (newest_first labels)
-load_labels labels = ap (λ (w : World). w.node_labels) (load-built labels) ∙ built_labels (reverse labels)
+links_loaded : (g : Digraph) (labels : List (List ℕ)) (nodes count : ℕ) (links : List Link) → IsCounted g nodes count
+    → add_links (seen_world g labels (decimals count)) links ≡ seen_world (with_links g links) labels (decimals (count + length links))
+links_loaded g labels nodes count [] counted = ap (λ n. seen_world g labels (decimals n)) (sym (add-zero count))
+links_loaded g labels nodes count (link ∷ links) counted =
+    let new : steps.new_arc g ≡ count = ap (λ free. steps.next_id free g.used_arcs) counted.no_free_arc ∙ counted.used_arcs in
+    let used = counted.used_arcs ∙ sym (length-decimals count) in
+    let put : fin.insert (seen (decimals count)) (steps.new_arc g) (decimal (steps.new_arc g)) ≡ seen (decimals (suc count)) =
+    ap (λ n. fin.insert (seen (decimals count)) (steps.new_arc g) (decimal n)) new
+    ∙ sym (seen-push (decimals count) (decimal count) g.free_arcs g.used_arcs counted.no_free_arc used) in
+    let on = steps.add_arc g link.from link.to in
+    let now : add_arc (seen_world g labels (decimals count)) (decimal (steps.new_arc g)) link.from link.to ≡ seen_world on labels (decimals (suc count)) =
+    λ i. record { graph = on; node_labels = seen labels; arc_labels = put i } in
+    let more : IsCounted on nodes (suc count) =
+    subst (IsCounted on nodes) (add-one count) (arc_counted g nodes count link.from link.to counted) in
+    let total : suc count + length links ≡ count + length (link ∷ links) = omega arith in
+    ap (λ (w : World). add_links w links) now ∙ links_loaded on labels nodes (suc count) links more
+    ∙ ap (λ n. seen_world (with_links on links) labels (decimals n)) total
 
-add_nodes-push : (world : World) (labels : List (List ℕ)) (label : List ℕ)
-    → add_nodes world (labels ++ label ∷ []) ≡ add_node (add_nodes world labels) label
-add_nodes-push world [] label = refl
-add_nodes-push world (other ∷ labels) label = add_nodes-push (add_node world other) labels label
+-- the world of a file is seen of its digraph, its labels and the decimals of its arcs
+pub loaded : (labels : List (List ℕ)) (links : List Link)
+    → load (record { labels = labels; links = links }) ≡ seen_world (with_links (with_nodes (length labels)) links) labels (decimals (length links))
+loaded labels links =
+    let g = with_nodes (length labels) in
+    ap (λ (w : World). add_links w links) (nodes_loaded labels)
+    ∙ links_loaded g labels (length labels) 0 links (nodes_counted (length labels))
+    ∙ ap (λ n. seen_world (with_links g links) labels (decimals n)) (zero-add (length links))
 
--- one node more is loaded
-pub load_more : (labels : List (List ℕ)) (i : ℕ) (d : List ℕ) → i < length labels
-    → load (take (i + 1) labels) ≡ add_node (load (take i labels)) (get_or labels i d)
-load_more labels i d below =
-    ap load (take_more labels i d below) ∙ add_nodes-push empty (take i labels) (get_or labels i d)
+-- so many arcs more
+pub links_counted : (g : Digraph) (nodes count : ℕ) (links : List Link) → IsCounted g nodes count → IsCounted (with_links g links) nodes (count + length links)
+links_counted g nodes count [] counted = subst (IsCounted g nodes) (sym (add-zero count)) counted
+links_counted g nodes count (link ∷ links) counted =
+    let total : (count + 1) + length links ≡ count + length (link ∷ links) = omega arith in
+    subst (IsCounted (with_links g (link ∷ links)) nodes) total
+    (links_counted (steps.add_arc g link.from link.to) nodes (count + 1) links (arc_counted g nodes count link.from link.to counted))

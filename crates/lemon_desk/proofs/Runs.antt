@@ -125,7 +125,7 @@ pub playing_answered : (world now later : World) (lines rest : List (List ℕ)) 
     → Playing world lines (line ∷ rest) number refused now out → is_passed_over line ≡ false → Answers now line answer later
     → Playing world lines rest (number + 1) (refused || is_refused answer) later (out ++ answer_text (number + 1) answer)
 playing_answered world now later lines rest line number refused out answer was e h =
-    let last = (number + 1, answer) ∷ [] in
+    let last : List (ℕ × Answer) = (number + 1, answer) ∷ [] in
     let answered = one_answered now later (number + 1) line answer e h in
     record {
       before = was.before ++ line ∷ [];

@@ -1,2 +1,7 @@
-pub mod LineEnds
+pub mod Parts
 pub mod Rows
+pub mod Labelled
+pub mod Pieces
+pub mod Loaded
+pub mod Refusals
+pub mod Words

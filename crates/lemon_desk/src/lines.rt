@@ -3,15 +3,17 @@
 ghost use Rattle.std.specs.Prelude.{◌≡◌, ◌<◌, ◌∷◌, ◌++◌, [], length, IfSome, IfNone};
 ghost use Rattle.std.specs.List.{list_all};
 ghost use Rattle.plain_machine.specs.Lines as lines;
-ghost use Rattle.lemon_desk.specs.LineEnds.{HasNoEnd};
+ghost use Rattle.lemon_desk.specs.Parts.{LacksByte};
 
-/// The first line without its end, and what follows the end. None exactly where no line is ended.
-pub fn split_line(bytes: &[u8]) -> Option<(&[u8], &[u8])>
-    ensures line { IfSome result (λ parts. (bytes.now ≡ parts.0.now ++ 10 ∷ parts.1.now) × HasNoEnd parts.0.now) }
-    ensures none { IfNone result (HasNoEnd bytes.now) }
+/// What stands before the first place of the byte, and what follows it. None exactly where the byte
+/// isn't there.
+pub fn split_once(bytes: &[u8], byte: u8) -> Option<(&[u8], &[u8])>
+    ensures parts { IfSome result (λ parts.
+        (bytes.now ≡ parts.0.now ++ byte ∷ parts.1.now) × LacksByte byte parts.0.now) }
+    ensures none { IfNone result (LacksByte byte bytes.now) }
 {
     for i in 0..bytes.len() {
-        if bytes[i] == b'\n' {
+        if bytes[i] == byte {
             return Some((&bytes[..i], &bytes[i + 1..]));
         }
     }
@@ -28,7 +30,7 @@ pub fn next_line(bytes: &[u8]) -> Option<(&[u8], &[u8])>
     if bytes.is_empty() {
         return None;
     }
-    match split_line(bytes) {
+    match split_once(bytes, b'\n') {
         Some((line, after)) => Some((line, after)),
         None => Some((bytes, &[])),
     }

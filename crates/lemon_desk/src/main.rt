@@ -1,9 +1,13 @@
 //! lgdesk: runs a script on a graph and reports its answers.
 #![tactic(auto)]
 
+mod commands;
 mod edge;
 mod graph_file;
+mod labels;
 mod lines;
+mod listings;
+mod loading;
 mod replies;
 mod script;
 pub mod serve;

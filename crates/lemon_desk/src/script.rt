@@ -1,18 +1,21 @@
-//! Script lines and their answers.
+//! Runs of a script, line by line.
 
-ghost use Rattle.std.specs.Prelude.{◌≡◌, ◌≤◌, ℕ, true, false, List, IfOk, IfSome, IfNone, MatchOption, IsOkAnd, OnErr};
+ghost use Rattle.std.specs.Prelude.{◌≡◌, ◌+◌, ◌<◌, ◌≤◌, ℕ, [], true, false, List, length, IfOk, IfErr, OnOk};
 ghost use Rattle.edge_io.specs.Causes.{Rose};
 ghost use Rattle.edge_io.specs.Files.{Took};
 ghost use Rattle.plain_machine.specs.Lines as lines;
-ghost use Rattle.plain_machine.specs.Steps.{Answer, Answers, Says};
-ghost use Rattle.plain_machine.specs.Texts.{answer_text, is_refused};
+ghost use Rattle.plain_machine.specs.Steps.{Answer, Answers, Step};
+ghost use Rattle.plain_machine.specs.Texts as texts;
 ghost use Rattle.plain_machine.specs.Outcome.{Plays};
+ghost use Rattle.lemon_desk.specs.Refusals.{Tells};
 
+use crate::commands::read_command;
 use crate::lines::{is_passed_over, next_line};
-use crate::replies::bad_line_text;
-use crate::world::World;
+use crate::replies::fault_text;
+use crate::world::{StepFault, World};
+use base_items::MAX_STAMP;
 use edge_io::{Sink, write_piece};
-use plain_machine::{Command, Status};
+use plain_machine::{Command, Fault, Status};
 use std::alloc::{AllocError, Global};
 
 // The text of an answer, and whether it refuses the line.
@@ -22,10 +25,17 @@ struct Reply {
     refused: bool,
 }
 
-/// Answers the lines of the script in turn. Each answer goes out as one piece before the next line.
-pub fn run_script<K: Sink>(alloc: Global, world: &World, script: &[u8], report: &mut K) -> Status
+/// Answers the lines of the script in turn. Each answer that has text goes out as one piece before the
+/// next line. It needs a stamp for each line.
+pub fn run_script<K: Sink>(
+    alloc: Global,
+    world: &mut World,
+    script: &[u8],
+    report: &mut K,
+) -> Status
+    requires { world.old.graph.stamps + length script.now < MAX_STAMP }
     ensures plays { (out : List ℕ) × Took (K.taken report.old) (K.taken report.new) out
-        × Plays world.now (lines.lines_of script.now) out result }
+        × Plays world.old (lines.lines_of script.now) out result }
     ensures later { K.faults report.old ≤ K.faults report.new }
     ensures cause { result ≡ Status.WriteFault → Rose (K.faults report.old) (K.faults report.new) }
 {
@@ -53,35 +63,76 @@ pub fn run_script<K: Sink>(alloc: Global, world: &World, script: &[u8], report: 
 }
 
 // The answer to a line that isn't passed over.
-fn answer_line(alloc: Global, world: &World, number: u64, line: &[u8]) -> Result<Reply, AllocError>
-    ensures { IfOk result (λ reply. (answer : Answer) × Answers world.now line.now answer world.now
-        × (reply.text.items ≡ answer_text number answer) × (reply.refused ≡ is_refused answer)) }
+fn answer_line(
+    alloc: Global,
+    world: &mut World,
+    number: u64,
+    line: &[u8],
+) -> Result<Reply, AllocError>
+    requires { world.old.graph.stamps < MAX_STAMP }
+    ensures answered { IfOk result (λ reply. (answer : Answer) × Answers world.old line.now answer world.new
+        × (reply.text.items ≡ texts.answer_text number answer) × (reply.refused ≡ texts.is_refused answer)) }
+    ensures stamps { world.new.graph.stamps ≤ world.old.graph.stamps + 1 }
 {
-    match read_command(line) {
-        Some(Command::Nodes) => {
-            let text = world.list_nodes(alloc)?;
-            Ok(Reply {
-                text,
-                refused: false,
-            })
-        }
-        None => {
-            let text = bad_line_text(alloc, number, 1)?;
-            Ok(Reply {
-                text,
-                refused: true,
-            })
-        }
+    match read_command(alloc, line)? {
+        Some(command) => answer_command(alloc, world, number, command),
+        None => refuse(alloc, number, &Fault::BadLine(1)),
     }
 }
 
-fn read_command(line: &[u8]) -> Option<Command>
-    ensures says { IfSome result (λ command. Says line.now command) }
-    ensures none { IfNone result ((command : Command) → Says line.now command → ⊥) }
+// The answer to a command.
+fn answer_command(
+    alloc: Global,
+    world: &mut World,
+    number: u64,
+    command: Command,
+) -> Result<Reply, AllocError>
+    requires { world.old.graph.stamps < MAX_STAMP }
+    ensures answered { IfOk result (λ reply. (answer : Answer) × Step world.old command answer world.new
+        × (reply.text.items ≡ texts.answer_text number answer) × (reply.refused ≡ texts.is_refused answer)) }
+    ensures stamps { world.new.graph.stamps ≤ world.old.graph.stamps + 1 }
 {
-    if line == b"nodes base".as_slice() {
-        Some(Command::Nodes)
-    } else {
-        None
+    match command {
+        Command::AddNode(label) => reply_to(alloc, number, world.add_node(label)),
+        Command::AddArc(label, from, to) => {
+            reply_to(alloc, number, world.add_arc(label, from, to))
+        }
+        Command::Nodes => Ok(listing(world.list_nodes(alloc)?)),
+        Command::Arcs => Ok(listing(world.list_arcs(alloc)?)),
+    }
+}
+
+// The reply to an addition that was made or refused.
+fn reply_to(alloc: Global, number: u64, outcome: Result<(), StepFault>) -> Result<Reply, AllocError>
+    ensures quiet { IfOk result (λ reply. OnOk outcome ((reply.text.items ≡ []) × (reply.refused ≡ false))) }
+    ensures refused { IfOk result (λ reply. IfErr outcome (λ fault. Tells number fault reply.text.items reply.refused)) }
+{
+    match outcome {
+        Ok(()) => Ok(Reply {
+            text: Vec::new(alloc),
+            refused: false,
+        }),
+        Err(StepFault::Refused(fault)) => refuse(alloc, number, &fault),
+        Err(StepFault::Memory) => Err(AllocError),
+    }
+}
+
+// The reply that refuses the line.
+fn refuse(alloc: Global, number: u64, fault: &Fault) -> Result<Reply, AllocError>
+    ensures { IfOk result (λ reply. (reply.text.items ≡ texts.fault_text number fault.now) × (reply.refused ≡ true)) }
+{
+    Ok(Reply {
+        text: fault_text(alloc, number, fault)?,
+        refused: true,
+    })
+}
+
+// The reply that has this text.
+fn listing(text: Vec<u8>) -> Reply
+    ensures { (result.text ≡ text) × (result.refused ≡ false) }
+{
+    Reply {
+        text,
+        refused: false,
     }
 }

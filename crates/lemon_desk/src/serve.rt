@@ -3,9 +3,10 @@
 ghost use Rattle.std.specs.Prelude.{◌≡◌, ◌≤◌, ◌↔◌, ◌⊎◌, ℕ, [], List, Some, IfSome, IfNone, IsTrue};
 ghost use Rattle.edge_io.specs.Causes.{Rose};
 ghost use Rattle.edge_io.specs.Files.{Files, HoldsWithin, Took};
+ghost use Rattle.plain_machine.specs.PlainForm.{GraphFile as PlainFile};
 ghost use Rattle.plain_machine.specs.Outcome.{Outcome, EndsRun, EndsUsage, IsRun, AskNothing, IsFileName, ReadRose, contents, HasGraph, HasNoGraph, HasTooLong, LacksNeeded, IsAnswered, EndsEarly};
 
-use crate::graph_file::{GraphFault, read_graph};
+use crate::graph_file::{GraphFault, GraphFile, read_graph};
 use crate::script::run_script;
 use crate::world::World;
 use edge_io::{InFault, Shelf, Sink, read_whole, write_piece};
@@ -59,9 +60,9 @@ pub fn serve<S: Shelf, K: Sink>(
         → IsRun (contents words.now) graph script → HasNoGraph files graph
         → (result ≡ Status.BadGraph) ⊎ EndsEarly result }
     // Where both files are as they should be and no count rose, all lines were answered.
-    ensures complete { (files : Files) (graph script text : List ℕ) (labels : List (List ℕ))
+    ensures complete { (files : Files) (graph script text : List ℕ) (file : PlainFile)
         → S.files shelf.old ≡ Some files → IsRun (contents words.now) graph script
-        → HasGraph files graph labels → HoldsWithin files script SCRIPT_LIMIT text
+        → HasGraph files graph file → HoldsWithin files script SCRIPT_LIMIT text
         → (Rose (S.read_faults shelf.old graph) (S.read_faults shelf.new graph) → ⊥)
         → (Rose (S.read_faults shelf.old script) (S.read_faults shelf.new script) → ⊥)
         → (Rose (K.faults report.old) (K.faults report.new) → ⊥) → IsAnswered result }
@@ -99,8 +100,8 @@ fn run_files<S: Shelf, K: Sink>(
         Err(InFault::TooLong) => return Status::TooLong,
         Err(InFault::Memory) => return Status::Memory,
     };
-    let labels = match read_graph(alloc, bytes.as_slice()) {
-        Ok(labels) => labels,
+    let GraphFile { labels, links } = match read_graph(alloc, bytes.as_slice()) {
+        Ok(file) => file,
         Err(GraphFault::NotYet) => {
             return if write_piece(report, NOT_YET).is_err() {
                 Status::WriteFault
@@ -116,10 +117,10 @@ fn run_files<S: Shelf, K: Sink>(
         Err(InFault::TooLong) => return Status::TooLong,
         Err(InFault::Memory) => return Status::Memory,
     };
-    let Ok(world) = World::load(alloc, labels) else {
+    let Ok(mut world) = World::load(alloc, labels, links.as_slice()) else {
         return Status::Memory;
     };
-    run_script(alloc, &world, text.as_slice(), report)
+    run_script(alloc, &mut world, text.as_slice(), report)
 }
 
 // The names of the graph and of the script, where the words have that shape.

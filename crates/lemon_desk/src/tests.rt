@@ -27,6 +27,8 @@ const EMPTY: &[u8] = b"@nodes\nlabel\n@arcs\n-\n";
 
 const TWO: &[u8] = b"@nodes\nlabel\na\nb\n@arcs\n-\n";
 
+const JOINED: &[u8] = b"@nodes\nlabel\na\nb\n@arcs\n-\na b\n";
+
 fn words_of(alloc: Global, texts: &[&[u8]]) -> Result<Vec<Vec<u8>>, AllocError> {
     let mut words = Vec::new(alloc);
     for text in texts {
@@ -78,6 +80,36 @@ fn rows(rt: HostRuntime) -> Result<(), Fail> {
             bad_put: 0,
             report: b"! graph 1 NotYet\n",
             status: Status::BadGraph,
+        },
+        Row {
+            name: "a node and an arc more",
+            words: RUN,
+            files: &[
+                (b"g", JOINED),
+                (b"s", b"addnode c\naddarc 1 b c\nnodes base\narcs base\n"),
+            ],
+            bad_put: 0,
+            report: b"n 2 c\nn 1 b\nn 0 a\nnodes 3\na 1 1 b c\na 0 0 a b\narcs 2\n",
+            status: Status::Done,
+        },
+        Row {
+            name: "lines that are refused",
+            words: RUN,
+            files: &[
+                (b"g", JOINED),
+                (b"s", b"addnode a\naddarc 7 a z\naddarc 0 a b\nfrob\n"),
+            ],
+            bad_put: 0,
+            report: b"! 1 3 Taken a\n! 2 2 Unknown z\n! 3 3 Taken 0\n! 4 1 BadLine 1\n",
+            status: Status::SomeRefused,
+        },
+        Row {
+            name: "the listing of the arcs fails to go out",
+            words: RUN,
+            files: &[(b"g", JOINED), (b"s", b"nodes base\narcs base\n")],
+            bad_put: 2,
+            report: b"n 1 b\nn 0 a\nnodes 2\n",
+            status: Status::WriteFault,
         },
         Row {
             name: "lines that are passed over, and one that is no command",

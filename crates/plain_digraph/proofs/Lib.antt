@@ -6,3 +6,5 @@ pub mod Live
 pub mod Additions
 pub mod Facts
 pub mod Walks
+pub mod Filters
+pub mod Orders

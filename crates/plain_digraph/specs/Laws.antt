@@ -1,5 +1,5 @@
 -- The laws of the digraph and of its plain steps, each said whole.
-use Rattle.std.specs.Prelude.{◌≡◌, ◌≢◌, ◌↔◌, ℕ, ◌<◌, ◌==◌, false, List, ◌∷◌, ◌++◌, cond, map, length, Some, None, IsSome, Contains}
+use Rattle.std.specs.Prelude.{◌≡◌, ◌≢◌, ◌↔◌, ℕ, ◌<◌, ◌==◌, true, false, List, ◌∷◌, ◌++◌, cond, map, length, Some, None, IsSome, Contains, IsPermutation}
 use Rattle.std.specs.List.Sorted.{IsStrictlyIncreasing}
 use Rattle.base_items.specs.declared.limits.TheConstants.{MAX_NODES, MAX_ARCS, MAX_STAMP}
 use Rattle.base_items.specs.declared.items.Fact.{Fact}
@@ -7,7 +7,7 @@ use Rattle.base_items.specs.declared.items.ItemSort.{ItemSort}
 use Rattle.base_items.specs.declared.items.ItemSort.TheVariants as sorts
 use Rattle.plain_digraph.specs.Lists.{has}
 use Rattle.plain_digraph.specs.Digraph.{Digraph, empty}
-use Rattle.plain_digraph.specs.Items.{ids, IsLive, used_of, count_of, fact_of, facts, node_fact, arc_fact, out_arcs, in_arcs}
+use Rattle.plain_digraph.specs.Items.{ids, IsLive, used_of, count_of, fact_of, facts, node_fact, arc_fact, source_of, target_of, out_arcs, in_arcs, all_arcs}
 use Rattle.plain_digraph.specs.Steps.{add_node, add_arc, new_node, new_arc}
 use Rattle.plain_digraph.specs.Valid.{IsValid}
 
@@ -83,3 +83,19 @@ abbrev pub AddedArcKeeps : Type 0
 AddedArcKeeps = (g : Digraph) (from to id : ℕ)
     → (fact_of (add_arc g from to) sorts.Node id ≡ fact_of g sorts.Node id)
     × (id ≢ new_arc g → fact_of (add_arc g from to) sorts.Arc id ≡ fact_of g sorts.Arc id)
+
+-- ---- the order of all arcs
+
+-- the arcs from each node in turn are all arcs, each once
+abbrev pub AllArcsAreWhole : Type 0
+AllArcsAreWhole = (g : Digraph) → IsValid g → IsPermutation (all_arcs g) (ids g.by_source)
+
+-- the arcs that are listed at a node are live and its own
+abbrev pub ListedArcsAreOwn : Type 0
+ListedArcsAreOwn = (g : Digraph) (node arc : ℕ) → IsValid g
+    → (has (out_arcs g node) arc ≡ true → IsLive g sorts.Arc arc × (source_of g arc ≡ node))
+    × (has (in_arcs g node) arc ≡ true → IsLive g sorts.Arc arc × (target_of g arc ≡ node))
+
+-- no arc stands twice at a node
+abbrev pub ListedArcsDiffer : Type 0
+ListedArcsDiffer = (g : Digraph) (node : ℕ) → IsValid g → StandsOnce (out_arcs g node) × StandsOnce (in_arcs g node)

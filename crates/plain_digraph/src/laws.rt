@@ -71,3 +71,18 @@ pub fn added_node_keeps()
 pub fn added_arc_keeps()
     ensures { laws.AddedArcKeeps }
 {}
+
+/// The arcs from each node in turn are all arcs, each once.
+pub fn all_arcs_are_whole()
+    ensures { laws.AllArcsAreWhole }
+{}
+
+/// The arcs that are listed at a node are live, and it is their source, or their target.
+pub fn listed_arcs_are_own()
+    ensures { laws.ListedArcsAreOwn }
+{}
+
+/// No arc stands twice among those from a node, nor among those to it.
+pub fn listed_arcs_differ()
+    ensures { laws.ListedArcsDiffer }
+{}

@@ -8,7 +8,7 @@ use Rattle.plain_machine.specs.declared.limits.TheConstants.{GRAPH_LIMIT, SCRIPT
 use Rattle.plain_machine.specs.declared.statuses.Status.{Status}
 use Rattle.plain_machine.specs.declared.statuses.Status.TheVariants as statuses
 use Rattle.plain_machine.specs.Lines.{lines_of}
-use Rattle.plain_machine.specs.PlainForm.{Spells}
+use Rattle.plain_machine.specs.PlainForm.{GraphFile, Spells}
 use Rattle.plain_machine.specs.World.{World, load}
 use Rattle.plain_machine.specs.Runs.{Finished, StoppedBefore, StoppedWithin}
 
@@ -39,18 +39,18 @@ not_yet = codes "! graph 1 NotYet\n"
 
 -- ---- files
 
--- the graph file is within its limit and spells a graph with these nodes
-abbrev pub HasGraph : Files → List ℕ → List (List ℕ) → Type 0
-HasGraph files graph labels = (bytes : List ℕ) × HoldsWithin files graph GRAPH_LIMIT bytes × Spells bytes labels
+-- the graph file is within its limit and spells this graph
+abbrev pub HasGraph : Files → List ℕ → GraphFile → Type 0
+HasGraph files graph file = (bytes : List ℕ) × HoldsWithin files graph GRAPH_LIMIT bytes × Spells bytes file
 
 -- it is within its limit and spells none
 abbrev pub HasNoGraph : Files → List ℕ → Type 0
 HasNoGraph files graph =
-    (bytes : List ℕ) × HoldsWithin files graph GRAPH_LIMIT bytes × ((labels : List (List ℕ)) → Spells bytes labels → ⊥)
+    (bytes : List ℕ) × HoldsWithin files graph GRAPH_LIMIT bytes × ((file : GraphFile) → Spells bytes file → ⊥)
 
 -- the bytes of the script are needed: those of the graph file spell a graph
 abbrev pub NeedsScript : Files → List ℕ → Type 0
-NeedsScript files graph = (labels : List (List ℕ)) × HasGraph files graph labels
+NeedsScript files graph = (file : GraphFile) × HasGraph files graph file
 
 -- a file whose bytes are needed is missing
 abbrev pub LacksNeeded : Files → List ℕ → List ℕ → Type 0
@@ -81,8 +81,8 @@ Plays world lines out statuses.TooLong = ⊥
 -- both files are as they should be, and the script is played on the graph
 abbrev pub PlaysFiles : Files → List ℕ → List ℕ → List ℕ → Status → Type 0
 PlaysFiles files graph script out status =
-    (labels : List (List ℕ)) × (text : List ℕ) × HasGraph files graph labels × HoldsWithin files script SCRIPT_LIMIT text
-    × Plays (load labels) (lines_of text) out status
+    (file : GraphFile) × (text : List ℕ) × HasGraph files graph file × HoldsWithin files script SCRIPT_LIMIT text
+    × Plays (load file) (lines_of text) out status
 
 -- a run on these two files
 abbrev pub EndsRun : Files → List ℕ → List ℕ → List ℕ → Status → Type 0

@@ -5,9 +5,13 @@
 #![tactic(auto)]
 
 mod commands;
+mod faults;
 mod limits;
+mod links;
 mod statuses;
 
 pub use commands::Command;
+pub use faults::Fault;
 pub use limits::{GRAPH_LIMIT, SCRIPT_LIMIT};
+pub use links::Link;
 pub use statuses::Status;

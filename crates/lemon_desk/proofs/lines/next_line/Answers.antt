@@ -5,7 +5,9 @@ use Rattle.lemon_desk.proofs.FirstLine.{lines_first, lines_last}
 use Rattle.lemon_desk.proofs.lines.next_line.Goals as goal
 
 pub returns-in-Some-clause-line : goal.returns-in-Some-clause-line
-returns-in-Some-clause-line c = let line = c.in-Some.ensures.line in ap lines_of line.0 ∙ lines_first _ _ line.1
+returns-in-Some-clause-line c =
+    let line = c.in-Some.ensures.parts in
+    ap lines_of line.0 ∙ lines_first _ _ line.1
 
 pub returns-in-None-clause-line : goal.returns-in-None-clause-line
 returns-in-None-clause-line c =

@@ -1,17 +1,13 @@
-use Rattle.std.proofs.Common.{◌≡◌, inl, inr, refl, subst}
+use Rattle.std.proofs.Common.{Option, subst}
+use Rattle.std.specs.Prelude.{IfNone}
 use Rattle.plain_machine.specs.declared.commands.Command.{Command}
-use Rattle.plain_machine.specs.declared.commands.Command.TheVariants.{Nodes}
-use Rattle.plain_machine.specs.Steps.{Says, node_lines, nodes, refused, bad_line}
+use Rattle.plain_machine.specs.Steps.{Says}
+use Rattle.lemon_desk.specs.declared.script.Reply.{Reply}
+use Rattle.lemon_desk.proofs.Stepped.{bad_line}
 use Rattle.lemon_desk.proofs.script.answer_line.Goals as goal
 
-only_nodes : (command : Command) → command ≡ Nodes
-only_nodes Nodes = refl
-
-pub returns-in_ok-text-in-Some-Nodes : goal.returns-in_ok-text-in-Some-Nodes
-returns-in_ok-text-in-Some-Nodes c =
-    let says : Says c.args.line.now Nodes = subst (Says c.args.line.now) (only_nodes c.in-Some-Nodes.field-0) c.in-Some-Nodes.ensures.says in
-    (nodes (node_lines c.args.world.now), inl (Nodes, says, (refl, refl)), c.in_ok-text-in-Some-Nodes.ensures, refl)
-
-pub returns-in_ok-text-in-None : goal.returns-in_ok-text-in-None
-returns-in_ok-text-in-None c =
-    (refused (bad_line 1), inr (c.in-None.ensures.none, refl, refl), c.in_ok-text-in-None.ensures, refl)
+pub returns-in-None-clause-answered : goal.returns-in-None-clause-answered
+returns-in-None-clause-answered c =
+    let none = subst (λ (found : Option Command). IfNone found ((command : Command) → Says c.args.line.now command → ⊥)) c.in-None.is c.in_ok-command.ensures.none in
+    bad_line (λ (r : Reply). r.text.items) (λ (r : Reply). r.refused) c.args.world.now c.args.line.now c.args.number c.refuse.result
+    none c.refuse.ensures

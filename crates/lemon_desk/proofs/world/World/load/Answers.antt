@@ -1,53 +1,67 @@
-use Rattle.std.proofs.Common.{◌≡◌, ℕ, List, [], ◌<◌, length, take, ap, sym, ◌∙◌, subst, arith}
-use Rattle.std.proofs.lemmas.List.{length-take-le, take_all}
-use Rattle.base_items.specs.declared.limits.Limit.{Limit}
-use Rattle.base_items.specs.declared.limits.Limit.TheVariants as limits
-use Rattle.base_items.specs.declared.limits.TheConstants.{MAX_NODES}
+use Rattle.std.proofs.Common.{◌≡◌, ℕ, List, length, sym, ap, ◌∙◌, subst, arith, zero-add}
 use Rattle.plain_digraph.specs.Digraph.{Digraph}
-use Rattle.plain_machine.specs.World.{World, load}
-use Rattle.list_digraph.specs.declared.faults.AddFault.TheVariants.{Full}
-use Rattle.list_digraph.specs.Refusals.{RefusesNode}
-use Rattle.lemon_desk.proofs.Loaded.{IsNumbered, load_numbered, load_labels, load_more}
+use Rattle.plain_machine.specs.PlainForm.{AreLinks}
+use Rattle.plain_machine.specs.declared.links.Link.{Link}
+use Rattle.lemon_desk.specs.Labelled.{IsLabelled}
+use Rattle.lemon_desk.specs.Loaded.{with_nodes, with_links}
+use Rattle.lemon_desk.proofs.Named.{seen_world}
+use Rattle.lemon_desk.proofs.Counted.{IsCounted, nodes_counted, length-decimals}
+use Rattle.lemon_desk.proofs.Loaded.{loaded, links_counted}
 use Rattle.lemon_desk.proofs.world.World.load.Goals as goal
 
--- there is room for a node of the file
-not_full : (world : World) (size : ℕ) (limit : Limit) → IsNumbered world size → size < MAX_NODES
-    → RefusesNode world.graph (Full limit) → ⊥
-not_full world size limits.Nodes is below h = absurd (omega (arith, is.counted))
-not_full world size limits.Arcs is below h = h
-not_full world size limits.Stamps is below h = absurd (omega (arith, is.stamps, h.1))
+-- a digraph of so many nodes has them
+size_of : (g : Digraph) (count : ℕ) → g ≡ with_nodes count → length g.nodes ≡ count
+size_of g count is = ap (λ (d : Digraph). length d.nodes) is ∙ (nodes_counted count).nodes_counted
 
--- the first of the nodes
-front_size : (labels : List (List ℕ)) (i : ℕ) → i < length labels → IsNumbered (load (take i labels)) i
-front_size labels i below =
-    subst (IsNumbered (load (take i labels))) (length-take-le i labels (omega arith)) (load_numbered (take i labels))
+-- the counts of the digraph of a file
+file_counted : (count : ℕ) (links : List Link) → IsCounted (with_links (with_nodes count) links) count (length links)
+file_counted count links =
+    subst (IsCounted (with_links (with_nodes count) links) count) (zero-add (length links))
+    (links_counted (with_nodes count) count 0 links (nodes_counted count))
 
-pub unreachable-requires : goal.unreachable-requires
-unreachable-requires c =
-    let labels = c.args.node_labels.keys in
-    let below : c.loop-i.i < length labels = omega (arith, c.loop-i-test.true, c.len-count.ensures.len) in
-    let refused = rw c.in-Err-Full.field-0-is at c.in-Err-Full.ensures.refused in
-    not_full (load (take c.loop-i.i labels)) c.loop-i.i c.in-Err-Full.field-0-0 (front_size labels c.loop-i.i below)
-    (omega (arith, below, c.requires))
-    (subst (λ (g : Digraph). RefusesNode g (Full c.in-Err-Full.field-0-0)) c.loop-i.invariant refused)
+pub add_links-requires-clause-start : goal.add_links-requires-clause-start
+add_links-requires-clause-start c =
+    let is = c.in_ok-graph.ensures ∙ ap with_nodes c.len.ensures in
+    is ∙ ap with_nodes (sym (size_of c.in_ok-graph.graph _ is))
 
-pub loop-i-preserved : goal.loop-i-preserved
-loop-i-preserved c =
-    let labels = c.args.node_labels.keys in
-    let below : c.loop-i.i < length labels = omega (arith, c.loop-i-test.true, c.len-count.ensures.len) in
-    rw c.in-Ok.ensures.added (rw c.loop-i.invariant (sym (ap (λ (w : World). w.graph) (load_more labels c.loop-i.i [] below))))
+pub add_links-requires-clause-nodes : goal.add_links-requires-clause-nodes
+add_links-requires-clause-nodes c =
+    let is = c.in_ok-graph.ensures ∙ ap with_nodes c.len.ensures in
+    omega (arith, size_of c.in_ok-graph.graph _ is, c.requires.nodes)
+
+pub add_links-requires-clause-ends : goal.add_links-requires-clause-ends
+add_links-requires-clause-ends c =
+    let is = c.in_ok-graph.ensures ∙ ap with_nodes c.len.ensures in
+    subst (λ n. AreLinks n c.args.links.now) (sym (size_of c.in_ok-graph.graph _ is)) c.requires.ends
 
 pub invariant_of-result : goal.invariant_of-result
 invariant_of-result c =
-    let labels = c.args.node_labels.keys in
-    let all : take c.loop-i.i labels ≡ labels = take_all c.loop-i.i labels (omega (arith, c.loop-i-test.false, c.len-count.ensures.len)) in
-    let is : c.loop-i.graph ≡ (load labels).graph = c.loop-i.invariant ∙ ap (λ xs. (load xs).graph) all in
-    let numbered = load_numbered labels in
-    (ap (λ (g : Digraph). g.free_nodes) is ∙ numbered.none_free, ap (λ (g : Digraph). g.used_nodes) is ∙ numbered.used)
+    let labels = c.args.node_labels in
+    let links = c.args.links.now in
+    let is = c.in_ok-graph.ensures ∙ ap with_nodes c.len.ensures in
+    let graph = c.in_ok-arc_labels.ensures.graph ∙ ap (λ (g : Digraph). with_links g links) is in
+    let counted = file_counted (length labels) links in
+    let arcs = ap length c.in_ok-arc_labels.ensures.labels ∙ length-decimals (length links) in
+    subst (λ (g : Digraph). IsLabelled g labels c.in_ok-arc_labels.arc_labels) (sym graph) (record {
+      no_free_node = counted.no_free_node;
+      no_free_arc = counted.no_free_arc;
+      nodes_labelled = counted.used_nodes;
+      arcs_labelled = counted.used_arcs ∙ sym arcs;
+    })
 
-pub returns : goal.returns
-returns c =
-    let labels = c.args.node_labels.keys in
-    let all : take c.loop-i.i labels ≡ labels = take_all c.loop-i.i labels (omega (arith, c.loop-i-test.false, c.len-count.ensures.len)) in
-    let graph : c.loop-i.graph ≡ (load labels).graph = c.loop-i.invariant ∙ ap (λ xs. (load xs).graph) all in
-    λ i. record { graph = graph i; node_labels = sym (load_labels labels) i }
+pub returns-clause-loaded : goal.returns-clause-loaded
+returns-clause-loaded c =
+    let links = c.args.links.now in
+    let is = c.in_ok-graph.ensures ∙ ap with_nodes c.len.ensures in
+    let graph = c.in_ok-arc_labels.ensures.graph ∙ ap (λ (g : Digraph). with_links g links) is in
+    ap (λ (g : Digraph). seen_world g c.args.node_labels c.in_ok-arc_labels.arc_labels) graph
+    ∙ ap (seen_world _ c.args.node_labels) c.in_ok-arc_labels.ensures.labels
+    ∙ sym (loaded c.args.node_labels links)
+
+pub returns-clause-stamps : goal.returns-clause-stamps
+returns-clause-stamps c =
+    let links = c.args.links.now in
+    let is = c.in_ok-graph.ensures ∙ ap with_nodes c.len.ensures in
+    let graph = c.in_ok-arc_labels.ensures.graph ∙ ap (λ (g : Digraph). with_links g links) is in
+    let counted = file_counted (length c.args.node_labels) links in
+    omega (arith, ap (λ (g : Digraph). g.stamps) graph, counted.stamps_counted, c.requires.nodes, c.requires.arcs)

@@ -1,0 +1,6 @@
+pub mod EscapeLaws
+pub mod Places
+pub mod Outcomes
+pub mod WrittenLaws
+pub mod Determined
+pub mod Digits
