@@ -2,4 +2,8 @@
 #![tactic(auto)]
 
 #[cfg(test)]
+mod graph_files;
+#[cfg(test)]
+mod lines_and_labels;
+#[cfg(test)]
 mod tokens;

@@ -10,7 +10,8 @@ use Rattle.plain_digraph.specs.Digraph.{Digraph}
 use Rattle.plain_digraph.specs.Items.{ids}
 use Rattle.plain_digraph.specs.Steps.{add_arc, next_id, used_after}
 use Rattle.plain_machine.specs.declared.links.Link.{Link}
-use Rattle.plain_machine.specs.PlainForm.{IsNoneOf, AreLinks, JoinsNodes}
+use Rattle.token_text.specs.Names.{IsNoneOf}
+use Rattle.plain_machine.specs.PlainForm.{AreLinks, JoinsNodes}
 use Rattle.lemon_desk.specs.Loaded.{with_nodes, with_links, decimals}
 
 -- a digraph of so many nodes, of which none was given back, and so many arcs

@@ -3,7 +3,7 @@ use Rattle.std.proofs.Common.{◌≡◌, ℕ, List, ◌∷◌, ◌++◌, map, sy
 use Rattle.std.specs.Prelude.{codes}
 use Rattle.std.proofs.lemmas.List.{append_cancel_left}
 use Rattle.std.specs.List.{flat_map}
-use Rattle.plain_machine.specs.Lines.{ended}
+use Rattle.token_text.specs.Lines.{ended}
 use Rattle.plain_machine.specs.PlainForm.{GraphFile, Spells, spelling, link_line}
 use Rattle.lemon_desk.specs.Rows.{SpellsNodes, SpellsLinks, link_rows}
 use Rattle.lemon_desk.proofs.NodeRows.{closing, flat_ended, nodes_alone}

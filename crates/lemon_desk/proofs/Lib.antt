@@ -1,4 +1,3 @@
-pub mod FirstLine
 pub mod WordBytes
 pub mod Spoken
 pub mod Compared

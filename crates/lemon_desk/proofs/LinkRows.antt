@@ -6,12 +6,14 @@ use Rattle.std.proofs.lemmas.Option.{slice_get_within, get_or_from_slice_get}
 use Rattle.std.specs.List.{flat_map}
 use Rattle.base_items.specs.declared.limits.TheConstants.{MAX_ARCS}
 use Rattle.plain_machine.specs.declared.links.Link.{Link}
-use Rattle.plain_machine.specs.Lines.{ended}
-use Rattle.plain_machine.specs.PlainForm.{IsNoneOf, AreLabels, JoinsNodes, AreLinks, label_at, link_line}
-use Rattle.lemon_desk.specs.Parts.{LacksByte}
+use Rattle.token_text.specs.Lines.{ended}
+use Rattle.token_text.specs.Names.{IsNoneOf}
+use Rattle.plain_machine.specs.PlainForm.{AreLabels, JoinsNodes, AreLinks, label_at, link_line}
+use Rattle.token_text.specs.Lines.{LacksByte}
 use Rattle.lemon_desk.specs.Rows.{IsLinkLine, SpellsLinks, link_rows}
-use Rattle.lemon_desk.proofs.FirstLine.{one_part, not_inside}
-use Rattle.lemon_desk.proofs.LabelPlaces.{not_at, word_at_place}
+use Rattle.token_text.proofs.FirstLine.{one_part, not_inside}
+use Rattle.token_text.proofs.NamePlaces.{not_at}
+use Rattle.lemon_desk.proofs.LabelPlaces.{word_at_place}
 use Rattle.lemon_desk.proofs.NodeRows.{regroup}
 use Rattle.lemon_desk.proofs.WordBytes.{word_has_no_end, word_has_no_blank}
 

@@ -3,7 +3,8 @@ use Rattle.std.proofs.Common.{◌≡◌, ℕ, zero, suc, ◌<◌, List, [], ◌�
 use Rattle.std.specs.Prelude.{slice_get, unwrap_or}
 use Rattle.std.specs.FinMap as fin
 use Rattle.std.proofs.lemmas.Option.{same_Some, unwrap_or-slice_get}
-use Rattle.plain_machine.specs.PlainForm.{IsNoneOf, label_at}
+use Rattle.token_text.specs.Names.{IsNoneOf}
+use Rattle.plain_machine.specs.PlainForm.{label_at}
 use Rattle.plain_machine.specs.World.{World, Labels, label_of, IsNamed, LacksName}
 use Rattle.plain_digraph.specs.Digraph.{Digraph}
 use Rattle.plain_digraph.specs.Steps.{next_id}

@@ -4,11 +4,13 @@ use Rattle.std.specs.Prelude.{codes, IsTrue}
 use Rattle.std.proofs.lemmas.List.{append_cancel_left}
 use Rattle.std.specs.List.{flat_map}
 use Rattle.base_items.specs.declared.limits.TheConstants.{MAX_NODES}
-use Rattle.plain_machine.specs.Lines.{ended, is_word}
-use Rattle.plain_machine.specs.PlainForm.{IsNoneOf, AreLabels}
-use Rattle.lemon_desk.specs.Parts.{LacksByte}
+use Rattle.token_text.specs.Lines.{ended}
+use Rattle.plain_machine.specs.Lines.{is_word}
+use Rattle.token_text.specs.Names.{IsNoneOf}
+use Rattle.plain_machine.specs.PlainForm.{AreLabels}
+use Rattle.token_text.specs.Lines.{LacksByte}
 use Rattle.lemon_desk.specs.Rows.{CanAdd, SpellsNodes}
-use Rattle.lemon_desk.proofs.FirstLine.{one_part, not_inside}
+use Rattle.token_text.proofs.FirstLine.{one_part, not_inside}
 use Rattle.lemon_desk.proofs.WordBytes.{bytes_lack, word_has_no_end, word_not_arcs}
 
 -- the head of the arcs, which ends the nodes

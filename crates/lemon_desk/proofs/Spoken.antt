@@ -2,9 +2,9 @@
 use Rattle.std.proofs.Common.{◌≡◌, ℕ, List, ◌∷◌, ◌++◌, sym, ap, subst, ◌∙◌}
 use Rattle.std.specs.Prelude.{IsTrue}
 use Rattle.plain_machine.specs.Lines.{is_word}
-use Rattle.lemon_desk.specs.Parts.{LacksByte}
+use Rattle.token_text.specs.Lines.{LacksByte}
 use Rattle.lemon_desk.specs.Words.{AreWords}
-use Rattle.lemon_desk.proofs.FirstLine.{one_part, not_inside}
+use Rattle.token_text.proofs.FirstLine.{one_part, not_inside}
 use Rattle.lemon_desk.proofs.WordBytes.{word_has_no_blank}
 
 -- what stands before the first blank of three words is the first of them

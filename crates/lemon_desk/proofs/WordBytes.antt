@@ -4,7 +4,7 @@ use Rattle.std.specs.Prelude.{codes, IsTrue, not, ◌&&◌, ◌==◌}
 use Rattle.std.proofs.lemmas.Bool.{ne_eqb, and_parts}
 use Rattle.std.specs.List.{list_all}
 use Rattle.plain_machine.specs.Lines.{is_word, is_word_byte}
-use Rattle.lemon_desk.specs.Parts.{LacksByte}
+use Rattle.token_text.specs.Lines.{LacksByte}
 
 -- what a test of a word says
 pub word_all : (w : List ℕ) → 0 < length w → (get_or w 0 0 ≡ 35 → ⊥) → (get_or w 0 0 ≡ 64 → ⊥)

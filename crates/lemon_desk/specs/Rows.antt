@@ -3,8 +3,10 @@ use Rattle.std.specs.Prelude.{◌≡◌, ℕ, ◌<◌, ◌≤◌, IsTrue, List, 
 use Rattle.std.specs.List.{flat_map}
 use Rattle.base_items.specs.declared.limits.TheConstants.{MAX_NODES, MAX_ARCS}
 use Rattle.plain_machine.specs.declared.links.Link.{Link}
-use Rattle.plain_machine.specs.Lines.{ended, is_word}
-use Rattle.plain_machine.specs.PlainForm.{IsNoneOf, AreLabels, JoinsNodes, AreLinks, link_line}
+use Rattle.token_text.specs.Lines.{ended}
+use Rattle.plain_machine.specs.Lines.{is_word}
+use Rattle.token_text.specs.Names.{IsNoneOf}
+use Rattle.plain_machine.specs.PlainForm.{AreLabels, JoinsNodes, AreLinks, link_line}
 
 -- the line may be the next node after these
 pub record CanAdd (labels : List (List ℕ)) (line : List ℕ) : Type 0 where

@@ -6,10 +6,10 @@ ghost use Rattle.plain_machine.specs.Lines as lines;
 ghost use Rattle.plain_machine.specs.Steps.{Says};
 ghost use Rattle.plain_machine.specs.declared.commands.Command.{Command as PlainCommand};
 
-use crate::lines::{is_word, split_once};
+use crate::lines::is_word;
 use plain_machine::Command;
 use std::alloc::{AllocError, Global};
-use token_text::copy_text;
+use token_text::{copy_text, split_once};
 
 /// The command that the line says. None exactly where it says none.
 pub fn read_command(alloc: Global, line: &[u8]) -> Result<Option<Command>, AllocError>

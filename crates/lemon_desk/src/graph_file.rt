@@ -3,16 +3,16 @@
 ghost use Rattle.std.specs.Prelude.{◌≡◌, ◌≤◌, ◌∷◌, ◌++◌, [], length, slice_get, Some, IfOk, OnOk, IsErrOf, List, ℕ};
 ghost use Rattle.base_items.specs.declared.limits.TheConstants.{MAX_NODES as NODE_LIMIT};
 ghost use Rattle.plain_machine.specs.declared.links.Link.{Link as PlainLink};
-ghost use Rattle.plain_machine.specs.PlainForm.{GraphFile as PlainFile, Spells, AreLabels, IsNoneOf};
+ghost use Rattle.token_text.specs.Names.{IsNoneOf};
+ghost use Rattle.plain_machine.specs.PlainForm.{GraphFile as PlainFile, Spells, AreLabels};
 ghost use Rattle.lemon_desk.specs.declared.graph_file.GraphFault.TheVariants.{Memory};
 ghost use Rattle.lemon_desk.specs.Rows.{CanAdd, SpellsNodes, SpellsLinks, IsLinkLine};
 
-use crate::labels::LabelTable;
-use crate::lines::{is_word, split_once};
+use crate::lines::is_word;
 use base_items::{MAX_ARCS, MAX_NODES};
 use plain_machine::Link;
 use std::alloc::{AllocError, AllocFailed, Global};
-use token_text::copy_text;
+use token_text::{LabelTable, copy_text, split_once};
 
 /// A graph as a file has it: the labels of the nodes, and the arcs, in the order of the file.
 #[derive(Drop)]

@@ -8,11 +8,11 @@ ghost use Rattle.plain_machine.specs.Texts.{count_text};
 ghost use Rattle.lemon_desk.specs.Labelled.{IsLabelled};
 ghost use Rattle.lemon_desk.specs.Pieces.{node_piece, arc_piece};
 
-use crate::labels::LabelTable;
 use crate::replies::{push_arc, push_count, push_node};
 use base_items::{Arc, ItemSort, Node};
 use list_digraph::ListDigraph;
 use std::alloc::{AllocError, Global};
+use token_text::LabelTable;
 
 /// The nodes, the newest first.
 pub fn list_nodes(

@@ -7,13 +7,12 @@ ghost use Rattle.plain_digraph.specs.Laws.{HasRoomForNode, HasRoomForArc};
 ghost use Rattle.plain_machine.specs.PlainForm.{AreLinks};
 ghost use Rattle.lemon_desk.specs.Loaded.{with_nodes, with_links, decimals};
 
-use crate::labels::LabelTable;
 use base_items::{ItemSort, MAX_ARCS, MAX_NODES, Node};
 use itoa::Buffer;
 use list_digraph::{AddFault, ListDigraph};
 use plain_machine::Link;
 use std::alloc::{AllocError, Global};
-use token_text::copy_text;
+use token_text::{LabelTable, copy_text};
 
 /// The digraph with so many nodes.
 pub fn graph_with_nodes(alloc: Global, count: usize) -> Result<ListDigraph, AllocError>

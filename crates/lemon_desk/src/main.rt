@@ -4,7 +4,6 @@
 mod commands;
 mod edge;
 mod graph_file;
-mod labels;
 mod lines;
 mod listings;
 mod loading;

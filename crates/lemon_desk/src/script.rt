@@ -3,20 +3,21 @@
 ghost use Rattle.std.specs.Prelude.{◌≡◌, ◌+◌, ◌<◌, ◌≤◌, ℕ, [], true, false, List, length, IfOk, IfErr, OnOk};
 ghost use Rattle.edge_io.specs.Causes.{Rose};
 ghost use Rattle.edge_io.specs.Files.{Took};
-ghost use Rattle.plain_machine.specs.Lines as lines;
+ghost use Rattle.token_text.specs.Lines.{lines_of};
 ghost use Rattle.plain_machine.specs.Steps.{Answer, Answers, Step};
 ghost use Rattle.plain_machine.specs.Texts as texts;
 ghost use Rattle.plain_machine.specs.Outcome.{Plays};
 ghost use Rattle.lemon_desk.specs.Refusals.{Tells};
 
 use crate::commands::read_command;
-use crate::lines::{is_passed_over, next_line};
+use crate::lines::is_passed_over;
 use crate::replies::fault_text;
 use crate::world::{StepFault, World};
 use base_items::MAX_STAMP;
 use edge_io::{Sink, write_piece};
 use plain_machine::{Command, Fault, Status};
 use std::alloc::{AllocError, Global};
+use token_text::next_line;
 
 // The text of an answer, and whether it refuses the line.
 #[derive(Drop)]
@@ -35,7 +36,7 @@ pub fn run_script<K: Sink>(
 ) -> Status
     requires { world.old.graph.stamps + length script.now < MAX_STAMP }
     ensures plays { (out : List ℕ) × Took (K.taken report.old) (K.taken report.new) out
-        × Plays world.old (lines.lines_of script.now) out result }
+        × Plays world.old (lines_of script.now) out result }
     ensures later { K.faults report.old ≤ K.faults report.new }
     ensures cause { result ≡ Status.WriteFault → Rose (K.faults report.old) (K.faults report.new) }
 {

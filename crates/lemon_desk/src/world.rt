@@ -8,7 +8,6 @@ ghost use Rattle.plain_machine.specs.Steps.{Refuses, node_lines, arc_lines};
 ghost use Rattle.plain_machine.specs.Texts.{listing_of_nodes, listing_of_arcs};
 ghost use Rattle.lemon_desk.specs.Refusals.{RefusedBy};
 
-use crate::labels::LabelTable;
 use crate::listings;
 use crate::loading::{add_links, graph_with_nodes};
 use base_items::{ItemSort, MAX_ARCS, MAX_NODES, MAX_STAMP, Node};
@@ -16,7 +15,7 @@ use list_digraph::{AddFault, ListDigraph};
 use plain_machine::{Command, Fault, Link};
 use std::alloc::{AllocError, Global};
 use std::marker::Model;
-use token_text::Text;
+use token_text::{LabelTable, Text};
 
 /// Why a command changed nothing.
 #[derive(Debug, Drop)]

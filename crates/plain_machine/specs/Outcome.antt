@@ -7,7 +7,7 @@ use Rattle.edge_io.specs.Files.{Files, HoldsWithin, Lacks, IsTooLong}
 use Rattle.plain_machine.specs.declared.limits.TheConstants.{GRAPH_LIMIT, SCRIPT_LIMIT}
 use Rattle.plain_machine.specs.declared.statuses.Status.{Status}
 use Rattle.plain_machine.specs.declared.statuses.Status.TheVariants as statuses
-use Rattle.plain_machine.specs.Lines.{lines_of}
+use Rattle.token_text.specs.Lines.{lines_of}
 use Rattle.plain_machine.specs.PlainForm.{GraphFile, Spells}
 use Rattle.plain_machine.specs.World.{World, load}
 use Rattle.plain_machine.specs.Runs.{Finished, StoppedBefore, StoppedWithin}

@@ -1,19 +1,16 @@
 -- The plain form of a graph file.
-use Rattle.std.specs.Prelude.{◌≡◌, ℕ, ◌<◌, ◌≤◌, IsTrue, List, [], ◌∷◌, ◌++◌, length, map, codes, slice_index_or, All}
+use Rattle.std.specs.Prelude.{◌≡◌, ℕ, ◌<◌, ◌≤◌, IsTrue, List, [], ◌∷◌, ◌++◌, length, map, codes, slice_index_or}
 use Rattle.std.specs.List.{flat_map}
 use Rattle.base_items.specs.declared.limits.TheConstants.{MAX_NODES, MAX_ARCS}
 use Rattle.plain_machine.specs.declared.links.Link.{Link}
-use Rattle.plain_machine.specs.Lines.{ended, is_word}
+use Rattle.token_text.specs.Lines.{ended}
+use Rattle.token_text.specs.Names.{IsNoneOf}
+use Rattle.plain_machine.specs.Lines.{is_word}
 
 -- a graph as a file has it: the labels of the nodes and the arcs, in the order of the file
 pub record GraphFile : Type 0 where
   pub labels : List (List ℕ)
   pub links : List Link
-
--- the label is none of these
-abbrev pub IsNoneOf : List ℕ → List (List ℕ) → Type 0
-IsNoneOf label [] = Unit {0}
-IsNoneOf label (other ∷ others) = (label ≡ other → ⊥) × IsNoneOf label others
 
 -- words, all different
 abbrev pub AreLabels : List (List ℕ) → Type 0

@@ -60,7 +60,7 @@ plain_no_quote [] rest more plain is = plain
 plain_no_quote (byte ∷ word) rest more plain is = plain.0 (cc)
 
 -- A token and what follows it are determined.
-token_one : (text bytes others end other_end : List ℕ) → Word text bytes end → Word text others other_end
+pub token_one : (text bytes others end other_end : List ℕ) → Word text bytes end → Word text others other_end
     → (bytes ≡ others) × (end ≡ other_end)
 token_one text bytes others end other_end (plain_word is plain stop)
     (plain_word other_is other_plain other_stop) =
@@ -87,7 +87,8 @@ closed text bytes end more (quoted_word inner is items) quote =
     let mores : inner ≡ more = cc in
     subst (λ own. Items own bytes (34 ∷ end)) mores items
 
-no_word : (text bytes end : List ℕ) → Word text bytes end → text ≡ [] → ⊥
+-- No token stands where nothing is left.
+pub no_word : (text bytes end : List ℕ) → Word text bytes end → text ≡ [] → ⊥
 no_word text [] end (plain_word is plain stop) none = plain
 no_word text (byte ∷ bytes) end (plain_word is plain stop) none = absurd (cc)
 no_word text bytes end (quoted_word more is items) none = absurd (cc)
@@ -99,6 +100,26 @@ bad_stops tail bad = by_escape (escape tail) refl
     by_escape : (found : Option (ℕ × List ℕ)) → escape tail ≡ found → found ≡ None
     by_escape None is = refl
     by_escape (Some pair) is = absurd (bad pair.0 pair.1 (escape_from tail pair.0 pair.1 is))
+
+module _ (line : List ℕ) (at : ℕ) where
+  -- No token can be read up to a bad backslash.
+  pub bad_no_word : (place : ℕ) (bytes rest : List ℕ) → BadBackslash line at place
+      → Word (after_blanks (drop at line)) bytes rest → ⊥
+  bad_no_word place bytes rest bad word =
+      let items = closed _ _ _ _ word bad.quoted in
+      let stops = bad_stops bad.tail bad.bad in
+      let same : 34 ∷ rest ≡ 92 ∷ bad.tail =
+      (items_one bad.more bytes bad.bytes (34 ∷ rest) (92 ∷ bad.tail) items bad.items refl stops).1 in
+      absurd (cc)
+
+  -- No token can be read where no quote closes it.
+  pub open_no_word : (place : ℕ) (bytes rest : List ℕ) → NoClose line at place
+      → Word (after_blanks (drop at line)) bytes rest → ⊥
+  open_no_word place bytes rest unclosed word =
+      let items = closed _ _ _ _ word unclosed.quoted in
+      let same : 34 ∷ rest ≡ [] =
+      (items_one unclosed.more bytes unclosed.bytes (34 ∷ rest) [] items unclosed.items refl refl).1 in
+      absurd (cc)
 
 -- The next token is quoted, and of its items no more can be read than up to this end.
 record StopsAt (line : List ℕ) (at : ℕ) (end : List ℕ) : Type 0 where
@@ -127,16 +148,6 @@ stops_open line at place unclosed = record {
   stops = refl;
 }
 
-stops_token : (line : List ℕ) (at start end : ℕ) (bytes more : List ℕ) → Reads line at start end bytes
-    → after_blanks (drop at line) ≡ 34 ∷ more → StopsAt line at (34 ∷ drop end line)
-stops_token line at start end bytes more reads quote = record {
-  more = more;
-  quoted = quote;
-  bytes = bytes;
-  items = closed _ _ _ _ reads.word quote;
-  stops = refl;
-}
-
 stop_one : (line : List ℕ) (at : ℕ) (end other : List ℕ)
     → StopsAt line at end → StopsAt line at other → end ≡ other
 stop_one line at end other one two =
@@ -147,19 +158,12 @@ stop_one line at end other one two =
 module _ (line : List ℕ) (at : ℕ) where
   token_not_bad : (start end : ℕ) (bytes : List ℕ) (place : ℕ) → Reads line at start end bytes
       → BadBackslash line at place → ⊥
-  token_not_bad start end bytes place reads bad =
-      let one = stops_token line at start end bytes bad.more reads bad.quoted in
-      let same : ◌≡◌ {A = List ℕ} (34 ∷ drop end line) (92 ∷ bad.tail) =
-      stop_one line at (34 ∷ drop end line) (92 ∷ bad.tail) one (stops_bad line at place bad) in
-      absurd (cc)
+  token_not_bad start end bytes place reads bad = bad_no_word line at place bytes (drop end line) bad reads.word
 
   token_not_open : (start end : ℕ) (bytes : List ℕ) (place : ℕ) → Reads line at start end bytes
       → NoClose line at place → ⊥
   token_not_open start end bytes place reads unclosed =
-      let one = stops_token line at start end bytes unclosed.more reads unclosed.quoted in
-      let same : 34 ∷ drop end line ≡ [] =
-      stop_one line at (34 ∷ drop end line) [] one (stops_open line at place unclosed) in
-      absurd (cc)
+      open_no_word line at place bytes (drop end line) unclosed reads.word
 
   bad_not_open : (place other : ℕ) → BadBackslash line at place → NoClose line at other → ⊥
   bad_not_open place other bad unclosed =

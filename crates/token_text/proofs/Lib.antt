@@ -4,3 +4,5 @@ pub mod Outcomes
 pub mod WrittenLaws
 pub mod Determined
 pub mod Digits
+pub mod FirstLine
+pub mod NamePlaces

@@ -1,8 +1,8 @@
 -- What stands at the end of a text, and where.
-use Rattle.std.proofs.Common.{◌≡◌, ℕ, zero, suc, ◌+◌, ◌≤◌, ◌<◌, Bool, true, false, cond, List, [], ◌∷◌, ◌++◌, length, drop, Some, None, Option, refl, sym, ap, ◌∙◌, subst, arith, append_assoc, length-append}
+use Rattle.std.proofs.Common.{◌≡◌, ℕ, zero, suc, ◌+◌, ◌≤◌, ◌<◌, Bool, true, false, cond, List, [], ◌∷◌, ◌++◌, length, drop, Some, None, Option, refl, sym, ap, ◌∙◌, subst, arith, append_assoc, length-append, length-drop}
 use Rattle.std.specs.Prelude.{option_map}
 use Rattle.token_text.specs.Bytes.{is_blank}
-use Rattle.token_text.specs.Grammar.{Digit, Escape, itself, letter, hex_1, hex_2, octal_1, octal_2, octal_3, Item, plain, escaped, Items, after_blanks}
+use Rattle.token_text.specs.Grammar.{Digit, Escape, itself, letter, hex_1, hex_2, octal_1, octal_2, octal_3, Item, plain, escaped, Items, Word, plain_word, quoted_word, Reads, after_blanks}
 
 -- The text ends with the rest.
 pub record Ends (text rest : List ℕ) : Type 0 where
@@ -121,3 +121,23 @@ first_visible (byte ∷ text) first rest is = by_test (is_blank byte) refl (firs
     by_test false tested later left =
         let heads : byte ≡ first = cc in
         ap is_blank (sym heads) ∙ tested
+
+-- A token has a first byte, so less is left behind it.
+pub word_shorter : (text bytes rest : List ℕ) → Word text bytes rest → length rest < length text
+word_shorter text [] rest (plain_word is bare stop) = absurd bare
+word_shorter text (byte ∷ bytes) rest (plain_word is bare stop) =
+    omega (arith, ap length is, length-append (byte ∷ bytes) rest)
+word_shorter text bytes rest (quoted_word more is items) =
+    omega (arith, ap length is, ends_length more (34 ∷ rest) (items_ends more bytes (34 ∷ rest) items))
+
+-- The next token ends further on.
+pub reads_on : (line : List ℕ) (at start end : ℕ) (bytes : List ℕ) → Reads line at start end bytes → at < end
+reads_on line at start end bytes reads =
+    omega (
+      arith,
+      word_shorter _ _ _ reads.word,
+      ends_length _ _ (blanks_end (drop at line)),
+      reads.end_in,
+      length-drop at line,
+      length-drop end line,
+    )

@@ -7,7 +7,7 @@ use Rattle.std.proofs.lemmas.Bool.Decides.{eqb_tells, leb_tells}
 use Rattle.token_text.specs.Bytes.{is_blank, is_itself, letter_byte, octal_value}
 use Rattle.token_text.specs.Grammar.{Digit, Escape, itself, letter, octal_3, Item, plain, escaped, Items, IsPlain, IsStop, is_word_bytes, Reads, Word, plain_word, quoted_word, after_blanks, Next}
 use Rattle.token_text.specs.Written.{is_bare_byte, starts_bare, is_bare, octal_digits, spelled, quoted, written}
-use Rattle.token_text.specs.Laws.{IsInside}
+use Rattle.token_text.specs.Lines.{IsInside}
 use Rattle.token_text.proofs.Places.{drop_front, ends_behind, ends_drop}
 
 -- The four ways in which a byte is written in quotes.

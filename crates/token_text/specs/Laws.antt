@@ -1,7 +1,8 @@
 -- What holds of the grammar, of the written spelling and of the ints.
-use Rattle.std.specs.Prelude.{◌≡◌, ℕ, ℤ, List, [], ◌∷◌, ◌++◌, ◌+◌, length, FitsSigned}
+use Rattle.std.specs.Prelude.{◌≡◌, ℕ, ℤ, List, ◌++◌, ◌+◌, length, FitsSigned}
 use Rattle.std.specs.Int.{w64}
 use Rattle.std.specs.Fmt.{signed_decimal}
+use Rattle.token_text.specs.Lines.{IsInside}
 use Rattle.token_text.specs.Grammar.{IsStop, Next, Reads, NoToken, BadBackslash, NoClose}
 use Rattle.token_text.specs.Written.{written}
 use Rattle.token_text.specs.Numbers.{IsInt}
@@ -37,11 +38,6 @@ WrittenStands =
     (front bytes rest : List ℕ) → IsStop rest
     → Reads (front ++ (written bytes ++ rest)) (length front) (length front)
     (length front + length (written bytes)) bytes
-
--- No byte is a line end.
-abbrev pub IsInside : List ℕ → Type 0
-IsInside [] = Unit {0}
-IsInside (byte ∷ bytes) = (byte ≡ 10 → ⊥) × IsInside bytes
 
 -- What is written for bytes has no line end.
 abbrev pub WrittenInside : Type 0

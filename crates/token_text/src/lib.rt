@@ -1,16 +1,20 @@
-//! Texts as bytes, and tokens: how they are read and written, with their ints and bools.
+//! Texts as bytes, tables of labels, lines, and tokens: how they are read and written, with ints and bools.
 #![tactic(auto)]
 
 mod compared;
 mod escapes;
+mod label_table;
 mod laws;
+mod lines;
 mod numbers;
 mod texts;
 mod tokens;
 mod written;
 
+pub use label_table::LabelTable;
 pub use laws::{decimal_reads, one_reading, written_inside, written_reads, written_stands};
+pub use lines::{next_line, split_once};
 pub use numbers::{read_bool, read_int};
 pub use texts::{Text, copy_text};
-pub use tokens::{Token, TokenFault, read_token};
+pub use tokens::{Token, TokenFault, after_blanks, read_token, split_word};
 pub use written::{push_token, token_bytes};

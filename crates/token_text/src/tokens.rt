@@ -47,8 +47,8 @@ fn is_blank(byte: u8) -> bool
     9 <= byte && byte <= 13 && byte != b'\n' || byte == b' '
 }
 
-// What is left of the text from its first byte on that is no blank.
-fn after_blanks(text: &[u8]) -> &[u8]
+/// What is left of the text from its first byte on that is no blank.
+pub fn after_blanks(text: &[u8]) -> &[u8]
     ensures { result.now ≡ after_blanks text.now }
 {
     let mut rest = text;
@@ -61,8 +61,8 @@ fn after_blanks(text: &[u8]) -> &[u8]
     rest
 }
 
-// The bytes up to the next blank, and what follows them.
-fn split_word(text: &[u8]) -> (&[u8], &[u8])
+/// The bytes up to the next blank, and what follows them.
+pub fn split_word(text: &[u8]) -> (&[u8], &[u8])
     ensures split { text.now ≡ result.0.now ++ result.1.now }
     ensures visible { is_word_bytes result.0.now ≡ true }
     ensures stop { IsStop result.1.now }

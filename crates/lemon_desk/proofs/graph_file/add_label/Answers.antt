@@ -1,6 +1,6 @@
 use Rattle.std.proofs.Common.{subst, sym, ◌∙◌}
-use Rattle.plain_machine.specs.PlainForm.{IsNoneOf}
-use Rattle.lemon_desk.proofs.LabelPlaces.{found_not_none}
+use Rattle.token_text.specs.Names.{IsNoneOf}
+use Rattle.token_text.proofs.NamePlaces.{found_not_none}
 use Rattle.lemon_desk.proofs.graph_file.add_label.Goals as goal
 
 pub returns-then-is_some-clause-none : goal.returns-then-is_some-clause-none

@@ -1,6 +1,6 @@
 use Rattle.std.proofs.Common.{length, ap, sym, ◌∙◌, subst, arith}
 use Rattle.std.specs.Fmt.{decimal}
-use Rattle.plain_machine.specs.PlainForm.{IsNoneOf}
+use Rattle.token_text.specs.Names.{IsNoneOf}
 use Rattle.lemon_desk.proofs.Counted.{decimal_is_new}
 use Rattle.lemon_desk.proofs.loading.add_link.Goals as goal
 

@@ -2,7 +2,7 @@ use Rattle.std.proofs.Common.{◌≡◌, ◌+◌, ◌++◌, ◌≤◌, true, fal
 use Rattle.std.specs.Prelude.{◌||◌, take, is_err, OnOk, OnErr}
 use Rattle.edge_io.specs.Files.{Took}
 use Rattle.edge_io.proofs.Pieces.{took_more}
-use Rattle.plain_machine.specs.Lines.{lines_of}
+use Rattle.token_text.specs.Lines.{lines_of}
 use Rattle.plain_machine.specs.Texts.{answer_text, is_refused}
 use Rattle.plain_machine.specs.Runs.{Finished}
 use Rattle.lemon_desk.proofs.Runs.{Playing, playing_passed, playing_answered, stopped_before, stopped_within, finished}

@@ -1,6 +1,6 @@
 use Rattle.std.proofs.Common.{ℕ, ◌+◌, ◌≤◌, List, length}
 use Rattle.edge_io.specs.Files.{Took}
-use Rattle.plain_machine.specs.Lines.{lines_of}
+use Rattle.token_text.specs.Lines.{lines_of}
 use Rattle.lemon_desk.proofs.Runs.{Playing}
 use Rattle.lemon_desk.proofs.script.run_script.Given as goal
 

@@ -1,5 +1,5 @@
 use Rattle.std.proofs.Common.{◌≡◌, ap, ◌∙◌, subst}
-use Rattle.plain_machine.specs.Lines.{lines_of}
+use Rattle.token_text.specs.Lines.{lines_of}
 use Rattle.plain_machine.specs.PlainForm.{GraphFile, Spells}
 use Rattle.plain_machine.specs.World.{load}
 use Rattle.plain_machine.specs.Outcome.{Plays, HasGraph}

@@ -1,8 +1,0 @@
-use Rattle.lemon_desk.proofs.LabelPlaces.{place_found}
-use Rattle.lemon_desk.proofs.labels.LabelTable.find.Goals as goal
-
-pub returns : goal.returns
-returns c =
-    let labels = c.self.inside.labels.keys in
-    let found = c.get_index_of.ensures in
-    rw (← c.self.view_is) (place_found c.args.label.now labels c.get_index_of.result found.index found.found)

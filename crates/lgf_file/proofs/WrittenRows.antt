@@ -1,0 +1,147 @@
+-- The text of a row has the tokens of the row, is a row, and has no line end.
+use Rattle.std.proofs.Common.{◌≡◌, ℕ, List, [], ◌∷◌, ◌++◌, cond, Bool, true, false, refl, sym, ap, ◌∙◌, subst, append_assoc, append-nil, arith}
+use Rattle.std.specs.Prelude.{◌==◌, ◌&&◌, not}
+use Rattle.std.specs.List.{flat_map, list_all}
+use Rattle.std.proofs.lemmas.Bool.{and_parts}
+use Rattle.token_text.specs.Bytes.{is_blank}
+use Rattle.token_text.specs.Grammar.{after_blanks, Next}
+use Rattle.token_text.specs.Lines.{IsInside}
+use Rattle.token_text.specs.Written.{written, is_bare, starts_bare, is_bare_byte, spelled}
+use Rattle.token_text.proofs.WrittenLaws.{written_reads, written_inside}
+use Rattle.lgf_file.specs.Sections.{kind_of, kind_from, section_named, name_of}
+use Rattle.lgf_file.specs.Rows.{Cells, Words}
+use Rattle.lgf_file.specs.Documents.{dash, head_cells, attribute_cells}
+use Rattle.lgf_file.specs.Plain.{cell_text, row_text, head_text, attribute_text}
+use Rattle.lgf_file.specs.declared.sections.LineKind.TheVariants.{Passed, Opens, Row}
+
+-- ---- tokens
+
+-- A tab in front of a text changes none of its tokens.
+words_tab : (text : List ℕ) (cells : Cells) → Words text cells → Words (9 ∷ text) cells
+words_tab text [] words = words
+words_tab text (cell ∷ cells) words = words
+
+-- Nor does a blank of byte 32.
+words_space : (text : List ℕ) (cells : Cells) → Words text cells → Words (32 ∷ text) cells
+words_space text [] words = words
+words_space text (cell ∷ cells) words = words
+
+-- The text of a row has its tokens.
+pub row_words : (cells : Cells) → Words (row_text cells) cells
+row_words [] = refl
+row_words (cell ∷ cells) =
+    let rest = 9 ∷ row_text cells in
+    let split = append_assoc (written cell) (9 ∷ []) (row_text cells) in
+    let next = subst (λ text. Next text cell rest) (sym split) (written_reads cell rest refl) in
+    (rest, next, words_tab (row_text cells) cells (row_words cells))
+
+-- A written token has that token alone.
+token_words : (cell : List ℕ) → Words (written cell) (cell ∷ [])
+token_words cell =
+    ([], subst (λ text. Next text cell []) (append-nil (written cell)) (written_reads cell [] tt), refl)
+
+-- The first line of the arcs has its tokens.
+pub head_words : (columns : Cells) → Words (head_text columns) (head_cells columns)
+head_words [] = token_words dash
+head_words (column ∷ columns) =
+    let cells = column ∷ columns in
+    words_tab (9 ∷ row_text cells) cells (words_tab (row_text cells) cells (row_words cells))
+
+-- The line of an attribute has its tokens.
+pub attribute_words : (attribute : List ℕ × List ℕ)
+    → Words (attribute_text attribute) (attribute_cells attribute)
+attribute_words attribute =
+    let value = written attribute.1 in
+    let next = written_reads attribute.0 (32 ∷ value) refl in
+    (32 ∷ value, next, words_space value (attribute.1 ∷ []) (token_words attribute.1))
+
+-- ---- kinds
+
+-- A byte that begins a token without quotes begins a row.
+bare_begins : (byte : ℕ) (bytes : List ℕ)
+    → not (byte == 35) && not (byte == 64) ≡ true → is_bare_byte byte ≡ true
+    → kind_of (byte ∷ bytes) ≡ Row
+bare_begins byte bytes starts bare =
+    let visible : is_blank byte ≡ false = grind arith in
+    let no_comment : (byte == 35) ≡ false = grind arith in
+    let no_section : (byte == 64) ≡ false = grind arith in
+    let opens = Opens (section_named (name_of bytes)) in
+    ap (λ blank. kind_from (cond blank (after_blanks bytes) (byte ∷ bytes))) visible
+    ∙ ap (λ comment. cond comment Passed (cond (byte == 64) opens Row)) no_comment
+    ∙ ap (λ section. cond section opens Row) no_section
+
+-- A text that needs no quotes begins a row.
+bare_row : (cell rest : List ℕ) → is_bare cell ≡ true → kind_of (cell ++ rest) ≡ Row
+bare_row [] rest bare = absurd (cc)
+bare_row (byte ∷ bytes) rest bare =
+    let parts = and_parts (starts_bare (byte ∷ bytes)) (list_all is_bare_byte (byte ∷ bytes)) bare in
+    let first = and_parts (is_bare_byte byte) (list_all is_bare_byte bytes) parts.1 in
+    bare_begins byte (bytes ++ rest) parts.0 first.0
+
+-- A written token begins a row.
+written_row : (cell rest : List ℕ) → kind_of (written cell ++ rest) ≡ Row
+written_row cell rest = by_test (is_bare cell) refl
+  where
+    by_test : (test : Bool) → is_bare cell ≡ test
+        → kind_of (cond test cell (34 ∷ flat_map spelled cell ++ 34 ∷ []) ++ rest) ≡ Row
+    by_test true bare = bare_row cell rest bare
+    by_test false bare = refl
+
+-- The text of a row with a token is a row.
+pub row_is_row : (cell : List ℕ) (cells : Cells) → kind_of (row_text (cell ∷ cells)) ≡ Row
+row_is_row cell cells =
+    ap kind_of (append_assoc (written cell) (9 ∷ []) (row_text cells))
+    ∙ written_row cell (9 ∷ row_text cells)
+
+-- The first line of the arcs is a row.
+pub head_is_row : (columns : Cells) → kind_of (head_text columns) ≡ Row
+head_is_row [] = refl
+head_is_row (column ∷ columns) = row_is_row column columns
+
+-- The line of an attribute is a row.
+pub attribute_is_row : (attribute : List ℕ × List ℕ) → kind_of (attribute_text attribute) ≡ Row
+attribute_is_row attribute = written_row attribute.0 (32 ∷ written attribute.1)
+
+-- ---- line ends
+
+-- Where no byte passes for a line end, none is one.
+pub inside_by_test : (bytes : List ℕ) → list_all (λ byte. not (byte == 10)) bytes ≡ true → IsInside bytes
+inside_by_test [] test = tt
+inside_by_test (byte ∷ bytes) test =
+    let parts = and_parts (not (byte == 10)) (list_all (λ own. not (own == 10)) bytes) test in
+    let other : byte ≡ 10 → ⊥ = λ end. absurd (
+    let both : true ≡ false = sym parts.0 ∙ ap (λ own. not (own == 10)) end in cc
+    ) in
+    (other, inside_by_test bytes parts.1)
+
+-- Two texts without a line end have none together.
+inside_both : (front rest : List ℕ) → IsInside front → IsInside rest → IsInside (front ++ rest)
+inside_both [] rest front_inside rest_inside = rest_inside
+inside_both (byte ∷ front) rest front_inside rest_inside =
+    (front_inside.0, inside_both front rest front_inside.1 rest_inside)
+
+-- A token and a tab have no line end.
+cell_inside : (cell : List ℕ) → IsInside (cell_text cell)
+cell_inside cell =
+    inside_both (written cell) (9 ∷ []) (written_inside cell) (inside_by_test (9 ∷ []) refl)
+
+-- The text of a row has none.
+pub row_inside : (cells : Cells) → IsInside (row_text cells)
+row_inside [] = tt
+row_inside (cell ∷ cells) =
+    inside_both (cell_text cell) (row_text cells) (cell_inside cell) (row_inside cells)
+
+-- The first line of the arcs has none.
+pub head_inside : (columns : Cells) → IsInside (head_text columns)
+head_inside [] = inside_by_test dash refl
+head_inside (column ∷ columns) =
+    inside_both (9 ∷ 9 ∷ []) (row_text (column ∷ columns)) (inside_by_test (9 ∷ 9 ∷ []) refl)
+    (row_inside (column ∷ columns))
+
+-- The line of an attribute has none.
+pub attribute_inside : (attribute : List ℕ × List ℕ) → IsInside (attribute_text attribute)
+attribute_inside attribute =
+    let value = written attribute.1 in
+    let blank = inside_by_test (32 ∷ []) refl in
+    let rest = inside_both (32 ∷ []) value blank (written_inside attribute.1) in
+    inside_both (written attribute.0) (32 ∷ value) (written_inside attribute.0) rest

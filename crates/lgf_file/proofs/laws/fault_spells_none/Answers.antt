@@ -1,0 +1,5 @@
+use Rattle.lgf_file.proofs.FaultFree.{fault_spells_none}
+use Rattle.lgf_file.proofs.laws.fault_spells_none.Goals as goal
+
+pub returns : goal.returns
+returns c = fault_spells_none

@@ -1,0 +1,5 @@
+use Rattle.lgf_file.proofs.DocumentAlone.{one_document}
+use Rattle.lgf_file.proofs.laws.one_document.Goals as goal
+
+pub returns : goal.returns
+returns c = one_document

@@ -1,0 +1,51 @@
+use Rattle.std.proofs.Common.{◌≡◌, ◌∷◌, ◌++◌, [], false, length, sym, ap, ◌∙◌, subst, arith}
+use Rattle.std.specs.Prelude.{if◌then◌else◌}
+use Rattle.std.proofs.lemmas.Bool.{not-true}
+use Rattle.base_items.specs.declared.limits.TheConstants.{MAX_NODES}
+use Rattle.token_text.specs.Names.{is_among}
+use Rattle.lgf_file.specs.Documents.{label_in}
+use Rattle.lgf_file.proofs.NodeLabels.{place_within}
+use Rattle.lgf_file.proofs.NodeRows.{node_right, node_push}
+use Rattle.lgf_file.proofs.NoFaults.{width_is}
+use Rattle.lgf_file.proofs.nodes.take_node.Goals as goal
+
+pub copy_label-requires-clause-within : goal.copy_label-requires-clause-within
+copy_label-requires-clause-within c =
+    let head = c.args.head.now in
+    let wide = width_is c.len-2.result c.as_slice-row.result.now (sym c.width_fault.ensures ∙ c.in_default.is) in
+    omega (arith, place_within head.columns c.requires.table.labelled, c.requires.head_ok, c.len-2.ensures)
+
+-- ---- where the node's label isn't among the others
+
+module _ (c : goal.In_ok-push) where
+  wide : length c.args.cells.items ≡ length c.args.head.now.columns
+  wide =
+      ap length (sym c.as_slice-row.ensures.value)
+      ∙ width_is c.len-2.result c.as_slice-row.result.now (sym c.width_fault.ensures ∙ c.in_default.is)
+      ∙ c.len-2.ensures
+
+  label : c.in_ok-label.label ≡ label_in c.args.head.now.columns c.args.cells.items
+  label = c.in_ok-label.ensures ∙ ap (label_in c.args.head.now.columns) c.as_slice-row.ensures.value
+
+  fresh : is_among (label_in c.args.head.now.columns c.args.cells.items) c.args.labels.now ≡ false
+  fresh = subst (λ own. is_among own c.args.labels.now ≡ false) label
+      (not-true _ (sym c.in_ok-fresh.ensures.fresh ∙ c.if-not-fresh.false))
+
+  room : length c.args.rows.now.items ≡ MAX_NODES → ⊥
+  room full = c.if-len.false (c.len.ensures ∙ c.args.rows.now.ok.0 ∙ full)
+
+pub returns-clause-fault : goal.returns-clause-fault
+returns-clause-fault c =
+    sym (node_right c.args.head.now c.args.rows.now.items c.args.labels.now c.args.cells.items c.requires
+    (room c) (wide c) (fresh c))
+
+pub returns-clause-sound : goal.returns-clause-sound
+returns-clause-sound c =
+    let rows = c.args.rows.now.items in
+    let labels = c.args.labels.now in
+    let name = c.in_ok-label.label in
+    node_push c.args.head.now rows labels c.args.cells.items c.requires (room c) (wide c) (fresh c) _ _
+    (c.in_ok-push.ensures.items ∙ ap (λ own. rows ++ own ∷ []) c.from_vec.ensures)
+    (c.in_ok-fresh.ensures.inserted
+    ∙ ap (λ fresh. if fresh then labels ++ name ∷ [] else labels) c.if-not-fresh.false
+    ∙ ap (λ own. labels ++ own ∷ []) (label c))

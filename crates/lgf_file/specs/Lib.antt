@@ -1,0 +1,10 @@
+pub mod Sections
+pub mod Rows
+pub mod Documents
+pub mod Plain
+pub mod Faults
+pub mod Laws
+pub mod Results
+pub mod Found
+pub mod Reading
+pub mod Readers

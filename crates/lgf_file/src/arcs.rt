@@ -1,0 +1,193 @@
+//! The arcs of a graph file.
+
+ghost use Rattle.std.specs.Prelude.{◌≡◌, ◌<◌, ◌≤◌, ◌+◌, ◌∷◌, ◌++◌, [], length, map, IfOk, IfNone, IfSome, Some, None, List as Items};
+ghost use Rattle.std.specs.Bool.{OnFalse};
+ghost use Rattle.base_items.specs.declared.limits.TheConstants.{MAX_NODES as NODE_LIMIT};
+ghost use Rattle.lgf_file.specs.Sections.{Line};
+ghost use Rattle.lgf_file.specs.Rows.{Rows};
+ghost use Rattle.lgf_file.specs.Documents.{AreArcs, ArcsSpell, link_cells};
+ghost use Rattle.lgf_file.specs.Faults as faults;
+ghost use Rattle.lgf_file.specs.Readers.{HoldsArcs, ArcsSound, IsEnds, IsHead, arcs_read, is_label_among, labels_with};
+
+use crate::documents::Link;
+use crate::faults::LgfKind;
+use crate::heads::{Head, columns_fault, has_dash, width_fault};
+use crate::rows::RowReader;
+use base_items::{List, MAX_ARCS};
+use std::alloc::{AllocError, Global};
+use token_text::{LabelTable, Text};
+
+/// The labels of the nodes, the head of the arcs, once it was read, the arcs, and their labels.
+#[derive(Drop)]
+pub struct ArcReader<'a> {
+    nodes: &'a LabelTable,
+    head: Option<Head>,
+    arcs: Vec<Link>,
+    labels: LabelTable,
+}
+
+impl<'a> ArcReader<'a> {
+    /// The reader that has read nothing.
+    pub fn new(alloc: Global, nodes: &'a LabelTable) -> ArcReader<'a>
+        requires { length nodes.now ≤ NODE_LIMIT }
+        ensures nodes { result.nodes.now ≡ nodes.now }
+        ensures read { arcs_read nodes.now result.head result.arcs.items ≡ [] }
+        ensures sound { ArcsSound nodes.now result.head result.arcs.items result.labels }
+    {
+        ArcReader {
+            nodes,
+            head: None,
+            arcs: Vec::new(alloc),
+            labels: LabelTable::new(alloc),
+        }
+    }
+
+    // Takes in the names of the columns.
+    fn take_head(&mut self, alloc: Global, cells: Vec<Text>) -> Result<Option<LgfKind>, AllocError>
+        requires sound { ArcsSound self.old.nodes.now self.old.head self.old.arcs.items self.old.labels }
+        requires first { self.old.head ≡ None }
+        requires some { 0 < length cells.items }
+        ensures nodes { IfOk result (λ found. IfNone found (self.new.nodes.now ≡ self.old.nodes.now)) }
+        ensures fault { IfOk result (λ found. found ≡ faults.arc_head_fault cells.items) }
+        ensures taken { IfOk result (λ found.
+            IfNone found (arcs_read self.new.nodes.now self.new.head self.new.arcs.items ≡ cells.items ∷ [])) }
+        ensures sound { IfOk result (λ found.
+            IfNone found (ArcsSound self.new.nodes.now self.new.head self.new.arcs.items self.new.labels)) }
+    {
+        if cells.len() == 1 && has_dash(cells.as_slice()) {
+            self.head = Some(Head::new(Vec::new(alloc)));
+            return Ok(None);
+        }
+        if let Some(kind) = columns_fault(alloc, cells.as_slice())? {
+            return Ok(Some(kind));
+        }
+        self.head = Some(Head::new(cells));
+        Ok(None)
+    }
+
+    /// The columns and the arcs that were read.
+    pub fn finish(self, alloc: Global) -> (List<Text>, List<Link>)
+        requires { ArcsSound self.nodes.now self.head self.arcs.items self.labels }
+        ensures spelled { (lines : Items Line)
+            → Rows lines (arcs_read self.entry.nodes.now self.entry.head self.entry.arcs.items)
+            → ArcsSpell lines self.entry.nodes.now result.0 result.1 }
+        ensures arcs { AreArcs self.entry.nodes.now result.0 result.1 }
+    {
+        let ArcReader {
+            nodes: _,
+            head,
+            arcs,
+            labels: _,
+        } = self;
+        let columns = match head {
+            Some(head) => head.columns,
+            None => List::from_vec(Vec::new(alloc)),
+        };
+        (columns, List::from_vec(arcs))
+    }
+}
+
+// The rows of the source and of the target of an arc. None where one of them is no node.
+fn ends_of(nodes: &LabelTable, cells: &[Text]) -> Option<(u32, u32)>
+    requires wide { 2 ≤ length cells.now }
+    requires few { length nodes.now ≤ NODE_LIMIT }
+    ensures found { IfSome result (λ ends. IsEnds nodes.now cells.now ends.0 ends.1) }
+    ensures none { IfNone result (faults.ends_fault nodes.now cells.now ≡ Some LgfKind.UnknownLabel) }
+{
+    let from = nodes.find(&cells[0])?;
+    let to = nodes.find(&cells[1])?;
+    Some((from as u32, to as u32))
+}
+
+// Puts the label of an arc last among the labels, if arcs have labels: whether it stood there already.
+fn is_twice(
+    alloc: Global,
+    head: &Head,
+    labels: &mut LabelTable,
+    values: &[Text],
+) -> Result<bool, AllocError>
+    requires head { IsHead head.now }
+    requires wide { length values.now ≡ length head.now.columns }
+    ensures twice { IfOk result (λ twice. twice ≡ is_label_among head.now.columns labels.old values.now) }
+    ensures labels { IfOk result (λ twice.
+        OnFalse twice (labels.new ≡ labels_with head.now.columns labels.old values.now)) }
+{
+    if head.label_place == head.columns.len() {
+        return Ok(false);
+    }
+    let label = head.copy_label(alloc, values)?;
+    let fresh = labels.insert(label)?;
+    Ok(!fresh)
+}
+
+// Takes in an arc behind the head, or tells what is at fault with its row.
+fn take_arc(
+    alloc: Global,
+    nodes: &LabelTable,
+    head: &Head,
+    arcs: &mut Vec<Link>,
+    labels: &mut LabelTable,
+    cells: Vec<Text>,
+) -> Result<Option<LgfKind>, AllocError>
+    requires { HoldsArcs nodes.now head.now arcs.old.items labels.old }
+    ensures fault { IfOk result (λ found. found ≡ faults.arc_row_fault nodes.now head.now.columns
+        (map (link_cells nodes.now) arcs.old.items) cells.items) }
+    ensures taken { IfOk result (λ found. IfNone found
+        (arcs_read nodes.now (Some head.now) arcs.new.items
+        ≡ arcs_read nodes.now (Some head.now) arcs.old.items ++ cells.items ∷ [])) }
+    ensures sound { IfOk result (λ found. IfNone found (HoldsArcs nodes.now head.now arcs.new.items labels.new)) }
+{
+    if arcs.len() == MAX_ARCS as usize {
+        return Ok(Some(LgfKind::TooMany));
+    }
+    let columns = head.columns.as_slice();
+    let row = cells.as_slice();
+    if let Some(kind) = width_fault(2 + columns.len(), row) {
+        return Ok(Some(kind));
+    }
+    let Some((from, to)) = ends_of(nodes, row) else {
+        return Ok(Some(LgfKind::UnknownLabel));
+    };
+    let values = values_of(cells);
+    if is_twice(alloc, head, labels, values.as_slice())? {
+        return Ok(Some(LgfKind::TwiceLabel));
+    }
+    let values = List::from_vec(values);
+    arcs.push(Link { from, to, values })?;
+    Ok(None)
+}
+
+// The tokens of an arc behind its source and its target.
+fn values_of(cells: Vec<Text>) -> Vec<Text>
+    requires { 2 ≤ length cells.items }
+    ensures { result.items ≡ faults.values_of cells.items }
+{
+    let mut values = cells;
+    values.remove(0);
+    values.remove(0);
+    values
+}
+
+impl<'a> RowReader for ArcReader<'a> {
+    ghost labels = { λ r. r.nodes.now };
+
+    ghost fault = { faults.arc_fault };
+
+    ghost read = { λ r. arcs_read r.nodes.now r.head r.arcs.items };
+
+    ghost IsSound = { λ r. ArcsSound r.nodes.now r.head r.arcs.items r.labels };
+
+    fn take(&mut self, alloc: Global, cells: Vec<Text>) -> Result<Option<LgfKind>, AllocError> {
+        let Some(head) = &self.head else {
+            return self.take_head(alloc, cells);
+        };
+        take_arc(
+            alloc,
+            self.nodes,
+            head,
+            &mut self.arcs,
+            &mut self.labels,
+            cells,
+        )
+    }
+}

@@ -1,0 +1,21 @@
+//! Graph files: the LEMON Graph Format in a profile, read into documents and written from them.
+#![tactic(auto)]
+
+mod arcs;
+mod attributes;
+mod documents;
+mod faults;
+mod heads;
+mod laws;
+mod nodes;
+mod reading;
+mod rows;
+mod sections;
+mod words;
+mod writing;
+
+pub use documents::{Doc, Link, Table};
+pub use faults::{DocFault, LgfFault, LgfKind};
+pub use laws::{fault_spells_none, one_document, one_fault, plain_spells};
+pub use reading::read_doc;
+pub use writing::doc_bytes;
