@@ -6,4 +6,6 @@ mod graph_files;
 #[cfg(test)]
 mod lines_and_labels;
 #[cfg(test)]
+mod script_lines;
+#[cfg(test)]
 mod tokens;

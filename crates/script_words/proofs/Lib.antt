@@ -1,0 +1,11 @@
+pub mod TokensAlone
+pub mod Ends
+pub mod Powers
+pub mod Reach
+pub mod Listed
+pub mod Farthest
+pub mod Apart
+pub mod WrongAlone
+pub mod Amounts
+pub mod ValidForms
+pub mod Verdicts

@@ -1,0 +1,9 @@
+use Rattle.std.proofs.Common.{◌-◌, length}
+use Rattle.script_words.proofs.Ends.{Reading}
+use Rattle.script_words.proofs.tokens.read_tokens.Given as goal
+
+abbrev pub invariant-tokens : goal.invariant-tokens
+invariant-tokens l = Reading l.line l.at l.tokens.items
+
+abbrev pub decreases-tokens : goal.decreases-tokens
+decreases-tokens l = length l.line - l.at
