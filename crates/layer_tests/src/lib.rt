@@ -6,6 +6,8 @@ mod graph_files;
 #[cfg(test)]
 mod lines_and_labels;
 #[cfg(test)]
+mod report_texts;
+#[cfg(test)]
 mod script_lines;
 #[cfg(test)]
 mod tokens;

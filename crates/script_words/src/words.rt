@@ -1,6 +1,6 @@
 //! Words at the places of a form: whether they fit, and what they say.
 
-ghost use Rattle.std.specs.Prelude.{◌≡◌, ℕ, ◌≤◌, length, true, map, IfOk};
+ghost use Rattle.std.specs.Prelude.{◌≡◌, ℕ, ◌≤◌, length, true, map, IfOk, IfSome};
 ghost use Rattle.std.specs.List.{list_all};
 ghost use Rattle.script_words.specs.Slots as slots;
 ghost use Rattle.script_words.specs.Slots.{word_at};
@@ -176,9 +176,10 @@ pub fn direction_of(word: &Text) -> Direction
     }
 }
 
-/// The number of a word that has one to seven digits.
+/// The number of a word that has digits only, at most seven.
 pub fn amount_of(word: &Text) -> Option<u32>
-    ensures { (low high : ℕ) → slots.is_amount low high word.now ≡ true
+    ensures spelled { IfSome result (λ number. number ≡ slots.number_of word.now) }
+    ensures exact { (low high : ℕ) → slots.is_amount low high word.now ≡ true
         → result ≡ Some (slots.number_of word.now) }
 {
     let bytes = word.as_bytes();
