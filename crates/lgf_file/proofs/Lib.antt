@@ -1,5 +1,5 @@
-pub mod Fronts
 pub mod Tokens
+pub mod LineWords
 pub mod Found
 pub mod RowWords
 pub mod NameLists

@@ -1,5 +1,6 @@
 -- The tokens of the first row of a section.
-use Rattle.std.proofs.Common.{◌≡◌, ℕ, ◌+◌, ◌<◌, List, [], ◌∷◌, length, refl, sym, ap, ◌∙◌, arith}
+use Rattle.std.proofs.Common.{◌≡◌, ℕ, ◌+◌, ◌<◌, List, [], ◌∷◌, length, cond, refl, sym, ap, ◌∙◌, arith}
+use Rattle.token_text.specs.Lines.{is_comment}
 use Rattle.lgf_file.specs.Sections.{Line, kind_of, kind_from, with_line, rows_of}
 use Rattle.lgf_file.specs.Rows.{Cells, Words}
 use Rattle.lgf_file.specs.declared.sections.LineKind.{LineKind}
@@ -27,7 +28,7 @@ first_is_row number (line ∷ lines) row rows same =
 pub first_has_token : (number : ℕ) (lines : List (List ℕ)) (row : Line) (rows : List Line)
     (cells : Cells) → rows_of number lines ≡ row ∷ rows → Words row.1 cells → 0 < length cells
 first_has_token number lines row rows [] same words =
-    let passed = ap kind_from words in
+    let passed = ap (λ left. cond (is_comment left) Passed (kind_from left)) words in
     let row_kind = first_is_row number lines row rows same in
     absurd (cc)
 first_has_token number lines row rows (cell ∷ cells) same words = omega arith

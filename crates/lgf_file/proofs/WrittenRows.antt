@@ -5,7 +5,7 @@ use Rattle.std.specs.List.{flat_map, list_all}
 use Rattle.std.proofs.lemmas.Bool.{and_parts}
 use Rattle.token_text.specs.Bytes.{is_blank}
 use Rattle.token_text.specs.Grammar.{after_blanks, Next}
-use Rattle.token_text.specs.Lines.{IsInside}
+use Rattle.token_text.specs.Lines.{IsInside, is_comment}
 use Rattle.token_text.specs.Written.{written, is_bare, starts_bare, is_bare_byte, spelled}
 use Rattle.token_text.proofs.WrittenLaws.{written_reads, written_inside}
 use Rattle.lgf_file.specs.Sections.{kind_of, kind_from, section_named, name_of}
@@ -66,7 +66,8 @@ bare_begins byte bytes starts bare =
     let no_comment : (byte == 35) ≡ false = grind arith in
     let no_section : (byte == 64) ≡ false = grind arith in
     let opens = Opens (section_named (name_of bytes)) in
-    ap (λ blank. kind_from (cond blank (after_blanks bytes) (byte ∷ bytes))) visible
+    let left = ap (λ blank. cond blank (after_blanks bytes) (byte ∷ bytes)) visible in
+    ap (λ own. cond (is_comment own) Passed (kind_from own)) left
     ∙ ap (λ comment. cond comment Passed (cond (byte == 64) opens Row)) no_comment
     ∙ ap (λ section. cond section opens Row) no_section
 

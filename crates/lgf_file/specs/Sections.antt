@@ -3,6 +3,7 @@ use Rattle.std.specs.Prelude.{ℕ, ◌+◌, ◌==◌, ◌||◌, Bool, true, fals
 use Rattle.std.specs.Str.{bytes_eq}
 use Rattle.token_text.specs.Bytes.{is_blank}
 use Rattle.token_text.specs.Grammar.{after_blanks}
+use Rattle.token_text.specs.Lines.{is_passed_over}
 use Rattle.lgf_file.specs.declared.sections.Section.{Section}
 use Rattle.lgf_file.specs.declared.sections.Section.TheVariants.{Nodes, Arcs, Attributes}
 use Rattle.lgf_file.specs.declared.sections.LineKind.{LineKind}
@@ -21,17 +22,15 @@ section_named name =
     else (if bytes_eq name (codes "attributes") then Some Attributes
     else None))
 
--- What a line is by its first byte that is no blank. One without such a byte and one that begins with # are
--- passed over, one that begins with @ opens the section whose name follows at once, and any other is a row.
+-- What a line that isn't passed over is by its first byte that is no blank: one that begins with @ opens the
+-- section whose name follows at once, and any other is a row.
 abbrev pub kind_from : List ℕ → LineKind
-kind_from [] = Passed
-kind_from (byte ∷ bytes) =
-    if byte == 35 then Passed
-    else (if byte == 64 then Opens (section_named (name_of bytes))
-    else Row)
+kind_from [] = Row
+kind_from (byte ∷ bytes) = if byte == 64 then Opens (section_named (name_of bytes)) else Row
 
+-- What a line is.
 abbrev pub kind_of : List ℕ → LineKind
-kind_of line = kind_from (after_blanks line)
+kind_of line = if is_passed_over line then Passed else kind_from (after_blanks line)
 
 -- Whether a line of this kind opens the section.
 abbrev pub is_opened_by : Section → LineKind → Bool

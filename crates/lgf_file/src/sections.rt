@@ -5,7 +5,7 @@ ghost use Rattle.token_text.specs.Lines.{lines_of};
 ghost use Rattle.lgf_file.specs.Sections as spec;
 ghost use Rattle.lgf_file.specs.Found as sought;
 
-use token_text::{after_blanks, next_line, split_word};
+use token_text::{after_blanks, is_passed_over, next_line, split_word};
 
 /// The kinds of sections that are read.
 #[derive(Clone, Copy, Debug, PartialEq, Eq)]
@@ -51,11 +51,12 @@ fn name_of(text: &[u8]) -> &[u8]
 pub fn kind_of(line: &[u8]) -> LineKind
     ensures { result ≡ spec.kind_of line.now }
 {
+    if is_passed_over(line) {
+        return LineKind::Passed;
+    }
     match after_blanks(line).split_first() {
-        None => LineKind::Passed,
-        Some((b'#', _)) => LineKind::Passed,
         Some((b'@', rest)) => LineKind::Opens(section_named(name_of(rest))),
-        Some(_) => LineKind::Row,
+        _ => LineKind::Row,
     }
 }
 

@@ -1,5 +1,3 @@
-pub mod TokensAlone
-pub mod Ends
 pub mod Powers
 pub mod Reach
 pub mod Listed

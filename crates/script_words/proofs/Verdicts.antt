@@ -2,14 +2,15 @@
 use Rattle.std.proofs.Common.{◌≡◌, ℕ, zero, suc, ◌+◌, ◌<◌, ◌≤◌, false, Option, Some, None, inl, inr, List, [], ◌∷◌, ◌++◌, length, take, drop, get_or, refl, ap, sym, ◌∙◌, subst, arith, add-one}
 use Rattle.std.proofs.lemmas.List.{take_all}
 use Rattle.token_text.specs.declared.tokens.Token.{Token}
+use Rattle.token_text.specs.Lines.{is_passed_over}
+use Rattle.token_text.specs.LineTokens.{HasTokens}
+use Rattle.token_text.proofs.TokensAlone.{tokens_alone}
 use Rattle.script_words.specs.declared.commands.Command.{Command}
 use Rattle.script_words.specs.declared.forms.Form.{Form}
-use Rattle.script_words.specs.Tokens.{HasTokens}
-use Rattle.script_words.specs.Lines.{Matches, GoesOn, Says, IsWrong, IsBad, IsBadPlace, command_of, is_passed_over}
+use Rattle.script_words.specs.Lines.{Matches, GoesOn, Says, IsWrong, IsBad, IsBadPlace, command_of}
 use Rattle.script_words.specs.Valid.{IsValid}
 use Rattle.script_words.proofs.ValidForms.{valid_form}
 use Rattle.script_words.proofs.Apart.{matches_alone}
-use Rattle.script_words.proofs.TokensAlone.{tokens_alone}
 use Rattle.script_words.proofs.WrongAlone.{take_goes, place_alone}
 
 -- Where a front has all the tokens, they go on with it.

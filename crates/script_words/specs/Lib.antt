@@ -1,4 +1,3 @@
-pub mod Tokens
 pub mod Slots
 pub mod Forms
 pub mod Lines

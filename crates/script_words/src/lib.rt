@@ -6,7 +6,6 @@ mod commands;
 mod forms;
 mod laws;
 mod lines;
-mod tokens;
 mod words;
 
 pub use commands::{Command, Direction, GuardWord, LayerWord, MapType};

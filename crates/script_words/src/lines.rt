@@ -1,7 +1,8 @@
 //! How a line is read.
 
 ghost use Rattle.std.specs.Prelude.{◌≡◌, ℕ, ◌+◌, ◌<◌, ◌≤◌, length, take, true, Ok, None, IfOk, IfErr, IfSome, IfNone};
-ghost use Rattle.script_words.specs.Lines.{Matches, GoesOn, Says, IsBad, is_passed_over};
+ghost use Rattle.token_text.specs.Lines.{is_passed_over};
+ghost use Rattle.script_words.specs.Lines.{Matches, GoesOn, Says, IsBad};
 ghost use Rattle.script_words.specs.Code as code;
 ghost use Rattle.script_words.specs.Forms.{shape};
 ghost use Rattle.script_words.specs.Results.{Answers, Refuses, Tells};
@@ -12,10 +13,9 @@ ghost use Rattle.script_words.specs.declared.commands.Command.{Command as Comman
 use crate::build::build;
 use crate::commands::Command;
 use crate::forms::{FORMS, Form, places};
-use crate::tokens::read_tokens;
 use crate::words::reach;
 use std::alloc::Global;
-use token_text::{Token, after_blanks};
+use token_text::{Token, is_passed_over, read_tokens};
 
 /// Why a line was read as no command.
 #[derive(Clone, Copy, Debug, PartialEq, Eq)]
@@ -62,15 +62,6 @@ pub fn read_line(alloc: Global, line: &[u8]) -> Result<Option<Command>, LineFaul
     match build(alloc, form, tokens) {
         Ok(command) => Ok(Some(command)),
         Err(_) => Err(LineFault::Memory),
-    }
-}
-
-fn is_passed_over(line: &[u8]) -> bool
-    ensures { result ≡ is_passed_over line.now }
-{
-    match after_blanks(line).first() {
-        Some(byte) => *byte == b'#',
-        None => true,
     }
 }
 

@@ -3,6 +3,8 @@ pub mod Places
 pub mod Outcomes
 pub mod WrittenLaws
 pub mod Determined
+pub mod TokensAlone
+pub mod TokensSoFar
 pub mod Digits
 pub mod FirstLine
 pub mod NamePlaces

@@ -5,6 +5,7 @@ mod compared;
 mod escapes;
 mod label_table;
 mod laws;
+mod line_tokens;
 mod lines;
 mod numbers;
 mod texts;
@@ -13,7 +14,8 @@ mod written;
 
 pub use label_table::LabelTable;
 pub use laws::{decimal_reads, one_reading, written_inside, written_reads, written_stands};
-pub use lines::{next_line, split_once};
+pub use line_tokens::{LineTokens, read_tokens};
+pub use lines::{is_passed_over, next_line, split_once};
 pub use numbers::{read_bool, read_int};
 pub use texts::{Text, copy_text};
 pub use tokens::{Token, TokenFault, after_blanks, read_token, split_word};

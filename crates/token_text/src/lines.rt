@@ -1,7 +1,9 @@
-//! Lines, as a file has them.
+//! Lines, as a file has them, and those that are passed over.
 
 ghost use Rattle.std.specs.Prelude.{◌≡◌, ◌<◌, ◌∷◌, ◌++◌, [], length, IfSome, IfNone};
-ghost use Rattle.token_text.specs.Lines.{LacksByte, lines_of};
+ghost use Rattle.token_text.specs.Lines.{LacksByte, lines_of, is_passed_over};
+
+use crate::tokens::after_blanks;
 
 /// What stands before the first place of the byte, and what follows it. None exactly where the byte
 /// isn't there.
@@ -31,5 +33,15 @@ pub fn next_line(bytes: &[u8]) -> Option<(&[u8], &[u8])>
     match split_once(bytes, b'\n') {
         Some((line, after)) => Some((line, after)),
         None => Some((bytes, &[])),
+    }
+}
+
+/// Whether the line has blanks only, or its first byte that is no blank is `#`.
+pub fn is_passed_over(line: &[u8]) -> bool
+    ensures { result ≡ is_passed_over line.now }
+{
+    match after_blanks(line).first() {
+        Some(byte) => *byte == b'#',
+        None => true,
     }
 }

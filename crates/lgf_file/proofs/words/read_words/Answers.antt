@@ -1,58 +1,23 @@
-use Rattle.std.proofs.Common.{◌≡◌, ◌∷◌, ◌++◌, [], drop, sym, subst, arith}
-use Rattle.std.proofs.lemmas.Grind.{common_steps}
-use Rattle.token_text.specs.Results.{Found, Faults}
-use Rattle.token_text.specs.Grammar.{Reads, BadBackslash, NoClose}
-use Rattle.token_text.proofs.Determined.{bad_no_word, open_no_word}
-use Rattle.token_text.proofs.Places.{reads_on}
-use Rattle.lgf_file.proofs.Fronts.{Front, front_push, front_done, quote_left, no_words}
+use Rattle.std.proofs.Common.{sym, ap, ◌∙◌, subst}
+use Rattle.std.proofs.lemmas.List.{map-id}
+use Rattle.std.proofs.lemmas.Iterator.Adapters.{YieldsList-from_vec}
+use Rattle.std.proofs.lemmas.Iterator.Consumers.{YieldsList-end}
+use Rattle.lgf_file.specs.Rows.{Words}
+use Rattle.lgf_file.proofs.LineWords.{cells_of, has_words, no_words}
 use Rattle.lgf_file.proofs.words.read_words.Goals as goal
 
-pub tokens-smaller : goal.tokens-smaller
-tokens-smaller c =
-    let line = c.args.line.now in
-    let token = c.in-Ok-Some.token in
-    let found : Reads line c.tokens.at token.start token.end token.bytes =
-    subst (Found line c.tokens.at) c.in-Ok-Some.field-0-is c.in-Ok-Some.ensures.found in
-    omega (arith, reads_on line c.tokens.at token.start token.end token.bytes found, found.end_in)
+pub returns-then-is_some-clause-none : goal.returns-then-is_some-clause-none
+returns-then-is_some-clause-none c =
+    no_words c.args.line.now 0 _ _ c.in_ok-read.ensures.tokens (sym c.is_some.ensures ∙ c.if-is_some.true)
 
-pub tokens-preserved : goal.tokens-preserved
-tokens-preserved c =
+pub returns-clause-found : goal.returns-clause-found
+returns-clause-found c =
     let line = c.args.line.now in
-    let token = c.in-Ok-Some.token in
-    let rest = drop token.end line in
-    let found : Reads line c.tokens.at token.start token.end token.bytes =
-    subst (Found line c.tokens.at) c.in-Ok-Some.field-0-is c.in-Ok-Some.ensures.found in
-    let items : c.push.new.self.items ≡ c.tokens.cells.items ++ token.bytes ∷ [] = grind (arith, common_steps) in
-    record {
-      in_line = found.end_in;
-      front = subst (λ cells. Front line cells rest) (sym items)
-          (front_push line c.tokens.cells.items (drop c.tokens.at line) token.bytes rest
-          c.tokens.invariant.front found.word);
-    }
-
-pub returns-in-Ok-None-clause-found : goal.returns-in-Ok-None-clause-found
-returns-in-Ok-None-clause-found c =
-    let line = c.args.line.now in
-    let none = subst (Found line c.tokens.at) c.in-Ok-None.field-0-is c.in-Ok-None.ensures.found in
-    front_done line c.tokens.cells.items (drop c.tokens.at line) c.tokens.invariant.front none
-
-pub returns-in-Err-BadEscape-clause-none : goal.returns-in-Err-BadEscape-clause-none
-returns-in-Err-BadEscape-clause-none c =
-    let line = c.args.line.now in
-    let at = c.tokens.at in
-    let place = c.in-Err-BadEscape.field-0-0 in
-    let bad : BadBackslash line at place =
-    subst (Faults line at) c.in-Err-BadEscape.field-0-is c.in-Err-BadEscape.ensures.faults in
-    no_words line c.tokens.cells.items (drop at line) c.tokens.invariant.front (quote_left _ bad.more bad.quoted)
-    (λ cell rest next. bad_no_word line at place cell rest bad next)
-
-pub returns-in-Err-OpenQuote-clause-none : goal.returns-in-Err-OpenQuote-clause-none
-returns-in-Err-OpenQuote-clause-none c =
-    let line = c.args.line.now in
-    let at = c.tokens.at in
-    let place = c.in-Err-OpenQuote.field-0-0 in
-    let unclosed : NoClose line at place =
-    subst (Faults line at) c.in-Err-OpenQuote.field-0-is c.in-Err-OpenQuote.ensures.faults in
-    no_words line c.tokens.cells.items (drop at line) c.tokens.invariant.front
-    (quote_left _ unclosed.more unclosed.quoted)
-    (λ cell rest next. open_no_word line at place cell rest unclosed next)
+    let tokens = c.in_ok-read.read.tokens in
+    let gives = c.into_iter-token-iterator.ensures.into_iter_gives in
+    let all = YieldsList-end (YieldsList-from_vec tokens.items gives.0 (gives.1 ∙ tokens.ok.0))
+    c.loop-token.yielded _ c.loop-token.yielded_by _ c.next.new.self c.in-None.is c.next.ensures.steps in
+    let same = c.loop-token.invariant ∙ ap cells_of (sym (map-id c.loop-token.yielded) ∙ all.0) in
+    subst (Words line) (sym same)
+    (has_words line 0 tokens.items _ c.in_ok-read.ensures.tokens
+    (sym c.is_some.ensures ∙ c.if-is_some.false))

@@ -1,6 +1,6 @@
 use Rattle.std.proofs.Common.{◌≡◌, ℕ, ◌+◌, Option, List, refl, sym, ◌∙◌, subst}
 use Rattle.token_text.specs.declared.tokens.Token.{Token}
-use Rattle.script_words.specs.Tokens.{HasTokens}
+use Rattle.token_text.specs.LineTokens.{HasTokens}
 use Rattle.script_words.specs.Lines.{IsBad}
 use Rattle.script_words.proofs.Verdicts.{all_goes, says_valid, wrong_token, unread_token, missing_token, one_command, one_column}
 use Rattle.script_words.proofs.lines.read_line.Goals as goal

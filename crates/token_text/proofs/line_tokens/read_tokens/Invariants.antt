@@ -1,6 +1,6 @@
 use Rattle.std.proofs.Common.{◌-◌, length}
-use Rattle.script_words.proofs.Ends.{Reading}
-use Rattle.script_words.proofs.tokens.read_tokens.Given as goal
+use Rattle.token_text.proofs.TokensSoFar.{Reading}
+use Rattle.token_text.proofs.line_tokens.read_tokens.Given as goal
 
 abbrev pub invariant-tokens : goal.invariant-tokens
 invariant-tokens l = Reading l.line l.at l.tokens.items

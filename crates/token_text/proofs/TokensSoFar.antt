@@ -5,7 +5,7 @@ use Rattle.std.proofs.lemmas.List.Elements.{All-push}
 use Rattle.token_text.specs.Grammar.{Reads}
 use Rattle.token_text.specs.declared.tokens.Token.{Token}
 use Rattle.token_text.proofs.Places.{word_shorter}
-use Rattle.script_words.specs.Tokens.{HasTokens, Stops}
+use Rattle.token_text.specs.LineTokens.{HasTokens, Stops}
 
 -- Whatever tokens follow from the place on, the line has the ones so far and them.
 abbrev pub Before : List ℕ → ℕ → List Token → Type 0

@@ -1,10 +1,10 @@
 //! The tokens of a line.
 
 ghost use Rattle.std.specs.Prelude.{◌<◌, length, All, IfOk, IfSome};
-ghost use Rattle.script_words.specs.Tokens.{HasTokens};
+ghost use Rattle.token_text.specs.LineTokens.{HasTokens};
 
+use crate::tokens::{Token, TokenFault, read_token};
 use std::alloc::{AllocError, Global};
-use token_text::{Token, TokenFault, read_token};
 
 /// The tokens of a line up to its end or to one that can't be read, and the place where that one goes wrong.
 #[derive(Drop)]

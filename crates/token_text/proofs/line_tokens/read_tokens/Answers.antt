@@ -3,8 +3,8 @@ use Rattle.std.proofs.lemmas.Grind.{common_steps}
 use Rattle.token_text.specs.Grammar.{Reads}
 use Rattle.token_text.specs.Results.{Found, Faults}
 use Rattle.token_text.proofs.Places.{reads_on}
-use Rattle.script_words.proofs.Ends.{Reading, before_stop, reading_more}
-use Rattle.script_words.proofs.tokens.read_tokens.Goals as goal
+use Rattle.token_text.proofs.TokensSoFar.{Reading, before_stop, reading_more}
+use Rattle.token_text.proofs.line_tokens.read_tokens.Goals as goal
 
 pub tokens-smaller : goal.tokens-smaller
 tokens-smaller c =

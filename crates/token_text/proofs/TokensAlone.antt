@@ -4,7 +4,7 @@ use Rattle.token_text.specs.Grammar.{Reads}
 use Rattle.token_text.specs.Laws.{token, nothing, bad_backslash, open_quote}
 use Rattle.token_text.specs.declared.tokens.Token.{Token}
 use Rattle.token_text.proofs.Determined.{one_reading}
-use Rattle.script_words.specs.Tokens.{HasTokens, Stops}
+use Rattle.token_text.specs.LineTokens.{HasTokens, Stops}
 
 -- These are the same tokens, with the same fault behind them.
 pub record Same (ones others : List Token) (one_fault other_fault : Option ℕ) : Type 0 where
@@ -23,7 +23,7 @@ module _ (line : List ℕ) (at : ℕ) where
       let same : open_quote place ≡ token start end bytes = one_reading line at _ _ unclosed reads in cc
 
   -- The tokens stop with one fault alone.
-  stop_alone : (one other : Option ℕ) → Stops line at one → Stops line at other → one ≡ other
+  pub stop_alone : (one other : Option ℕ) → Stops line at one → Stops line at other → one ≡ other
   stop_alone None None none none' = refl
   stop_alone None (Some place) none (inl bad) =
       let same : nothing ≡ bad_backslash place = one_reading line at _ _ none bad in cc
