@@ -1,7 +1,7 @@
 -- Lists of words.
 use Rattle.std.proofs.Common.{◌≡◌, ◌<◌, ◌≤◌, List, [], ◌∷◌, length, get_or, sym, arith}
 
--- a list of three
+-- A list of three.
 pub three : {X : Type 0} (xs : List X) (a b c : X) → 3 ≤ length xs → length xs < 4
     → a ≡ get_or xs 0 a → b ≡ get_or xs 1 b → c ≡ get_or xs 2 c → xs ≡ a ∷ b ∷ c ∷ []
 three [] a b c low high p q r = absurd (omega arith)

@@ -1,6 +1,2 @@
-pub mod Rows
-pub mod Labelled
-pub mod Pieces
-pub mod Loaded
-pub mod Refusals
-pub mod Words
+pub mod Refused
+pub mod Unhanded

@@ -1,18 +1,11 @@
 //! lgdesk: runs a script on a graph and reports its answers.
 #![tactic(auto)]
 
-mod commands;
+mod answers;
 mod edge;
-mod graph_file;
-mod lines;
-mod listings;
-mod loading;
-mod replies;
+mod graph_faults;
 mod script;
 pub mod serve;
-#[cfg(test)]
-mod tests;
-mod world;
 
 use edge::{FileShelf, OutSink};
 use plain_machine::Status;

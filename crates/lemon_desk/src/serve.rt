@@ -1,26 +1,28 @@
 //! All that the program does.
 
 ghost use Rattle.std.specs.Prelude.{◌≡◌, ◌≤◌, ◌↔◌, ◌⊎◌, ℕ, [], List, Some, IfSome, IfNone, IsTrue};
-ghost use Rattle.edge_io.specs.Causes.{Rose};
+ghost use Rattle.edge_io.specs.Causes.{Rose, NeverFall};
 ghost use Rattle.edge_io.specs.Files.{Files, HoldsWithin, Took};
-ghost use Rattle.plain_machine.specs.PlainForm.{GraphFile as PlainFile};
-ghost use Rattle.plain_machine.specs.Outcome.{Outcome, EndsRun, EndsUsage, IsRun, AskNothing, IsFileName, ReadRose, contents, HasGraph, HasNoGraph, HasTooLong, LacksNeeded, IsAnswered, EndsEarly};
+ghost use Rattle.token_text.specs.Lines.{lines_of};
+ghost use Rattle.lgf_file.specs.declared.documents.Doc.{Doc as Document};
+ghost use Rattle.lgf_file.specs.declared.faults.LgfFault.{LgfFault as Fault};
+ghost use Rattle.plain_machine.specs.Outcome.{Counts, Outcome, EndsRun, EndsUsage, IsRun, AskNothing, IsFileName, ReadRose, contents, HasGraph, HasBadGraph, HasTooLong, LacksNeeded, IsAnswered, EndsEarly, SavesTo};
+ghost use Rattle.lemon_desk.specs.Refused.{RefusesGraph};
 
-use crate::graph_file::{GraphFault, GraphFile, read_graph};
+use crate::graph_faults::graph_fault_bytes;
 use crate::script::run_script;
-use crate::world::World;
+use desk_world::World;
 use edge_io::{InFault, Shelf, Sink, read_whole, write_piece};
+use lgf_file::{DocFault, LgfFault, read_doc};
 use plain_machine::{GRAPH_LIMIT, SCRIPT_LIMIT, Status};
 use std::alloc::Global;
 
 const USAGE: &[u8] = b"usage: lgdesk run GRAPH SCRIPT | make SEED N M | drill SEED K\n";
 
-const NOT_YET: &[u8] = b"! graph 1 NotYet\n";
-
 /// Runs a script on a graph, and writes its answers to the report.
 ///
 /// The words are those after the program's name: `run`, the name of the graph file and the name of
-/// the script. What went out and the status are an outcome of the plain machine for these words and
+/// the script. What went out, the files and the status are an outcome of the plain machine for these words and
 /// files. A fault of the outside comes only where the count of that file, or of the report, rose in
 /// this call. Want of memory may come at any place.
 pub fn serve<S: Shelf, K: Sink>(
@@ -29,42 +31,51 @@ pub fn serve<S: Shelf, K: Sink>(
     shelf: &mut S,
     report: &mut K,
 ) -> Status
-    // What went out and the status are an outcome of the words and the files.
-    ensures outcome { (files : Files) → S.files shelf.old ≡ Some files → (out : List ℕ)
-        × Took (K.taken report.old) (K.taken report.new) out × Outcome (contents words.now) files out result }
-    // No file is stored.
-    ensures stored { S.files shelf.new ≡ S.files shelf.old }
+    // What went out, the files and the status are an outcome of the words and the files.
+    ensures outcome { let before : Counts = record { writes = K.faults report.old; stores = S.store_faults shelf.old } in
+        let now : Counts = record { writes = K.faults report.new; stores = S.store_faults shelf.new } in
+        (files : Files) → S.files shelf.old ≡ Some files → (out : List ℕ) × (left : Files)
+        × Took (K.taken report.old) (K.taken report.new) out × (S.files shelf.new ≡ Some left)
+        × Outcome (contents words.now) files (record { out = out; files = left; before = before; now = now }) result }
 
-    // Usage exactly where the words have no shape and the usage line was written.
+    // Usage exactly where the words have no shape and the usage line was written. No file is stored.
     ensures usage { result ≡ Status.Usage → AskNothing (contents words.now) }
     ensures shapeless { AskNothing (contents words.now) → (out : List ℕ)
-        × Took (K.taken report.old) (K.taken report.new) out × EndsUsage out result }
-    // A read fault only where the count of a file whose bytes are needed rose; nothing went out.
+        × Took (K.taken report.old) (K.taken report.new) out
+        × EndsUsage out (K.faults report.old) (K.faults report.new) result
+        × (S.files shelf.new ≡ S.files shelf.old) }
+    // A read fault only where the count of a file whose bytes are needed rose; nothing went out, and no file
+    // is stored.
     ensures read { result ≡ Status.ReadFault → (graph : List ℕ) × (script : List ℕ)
         × IsRun (contents words.now) graph script
         × ReadRose (S.files shelf.old) graph script (S.read_faults shelf.old) (S.read_faults shelf.new)
-        × Took (K.taken report.old) (K.taken report.new) [] }
-    // A write fault only where the count of the report rose.
-    ensures write { result ≡ Status.WriteFault → Rose (K.faults report.old) (K.faults report.new) }
+        × Took (K.taken report.old) (K.taken report.new) [] × (S.files shelf.new ≡ S.files shelf.old) }
+    // A write fault only where the count of the report rose, or that of the stores to a file.
+    ensures write { result ≡ Status.WriteFault → Rose (K.faults report.old) (K.faults report.new)
+        ⊎ ((name : List ℕ) × Rose (S.store_faults shelf.old name) (S.store_faults shelf.new name)) }
 
     // Where a needed file is missing: a read fault, and nothing went out.
     ensures lacking { (files : Files) (graph script : List ℕ) → S.files shelf.old ≡ Some files
         → IsRun (contents words.now) graph script → LacksNeeded files graph script
-        → ((result ≡ Status.ReadFault) ⊎ (result ≡ Status.Memory)) × Took (K.taken report.old) (K.taken report.new) [] }
+        → ((result ≡ Status.ReadFault) ⊎ (result ≡ Status.Memory))
+        × Took (K.taken report.old) (K.taken report.new) [] × (S.files shelf.new ≡ Some files) }
     // Where a needed file is too long, the run says so, if it doesn't end early.
     ensures too_long { (files : Files) (graph script : List ℕ) → S.files shelf.old ≡ Some files
         → IsRun (contents words.now) graph script → HasTooLong files graph script
         → (result ≡ Status.TooLong) ⊎ EndsEarly result }
-    // Where the graph file is no graph, the run says so, if it doesn't end early.
-    ensures bad_graph { (files : Files) (graph script : List ℕ) → S.files shelf.old ≡ Some files
-        → IsRun (contents words.now) graph script → HasNoGraph files graph
+    // Where the graph file spells no document, the run says so, if it doesn't end early.
+    ensures bad_graph { (files : Files) (graph script : List ℕ) (fault : Fault) → S.files shelf.old ≡ Some files
+        → IsRun (contents words.now) graph script → HasBadGraph files graph fault
         → (result ≡ Status.BadGraph) ⊎ EndsEarly result }
-    // Where both files are as they should be and no count rose, all lines were answered.
-    ensures complete { (files : Files) (graph script text : List ℕ) (file : PlainFile)
+    // Where both files are as they should be and no count rose, all lines were answered. Of the counts of
+    // stores those of the files count that a line saves to.
+    ensures complete { (files : Files) (graph script text : List ℕ) (doc : Document)
         → S.files shelf.old ≡ Some files → IsRun (contents words.now) graph script
-        → HasGraph files graph file → HoldsWithin files script SCRIPT_LIMIT text
+        → HasGraph files graph doc → HoldsWithin files script SCRIPT_LIMIT text
         → (Rose (S.read_faults shelf.old graph) (S.read_faults shelf.new graph) → ⊥)
         → (Rose (S.read_faults shelf.old script) (S.read_faults shelf.new script) → ⊥)
+        → ((name : List ℕ) → SavesTo (lines_of text) name
+        → Rose (S.store_faults shelf.old name) (S.store_faults shelf.new name) → ⊥)
         → (Rose (K.faults report.old) (K.faults report.new) → ⊥) → IsAnswered result }
 {
     let Some((graph, script)) = run_names(words) else {
@@ -85,14 +96,17 @@ fn run_files<S: Shelf, K: Sink>(
     shelf: &mut S,
     report: &mut K,
 ) -> Status
-    ensures ends { (files : Files) → S.files shelf.old ≡ Some files → (out : List ℕ)
-        × Took (K.taken report.old) (K.taken report.new) out × EndsRun files graph.now script.now out result }
+    ensures ends { let before : Counts = record { writes = K.faults report.old; stores = S.store_faults shelf.old } in
+        let now : Counts = record { writes = K.faults report.new; stores = S.store_faults shelf.new } in
+        (files : Files) → S.files shelf.old ≡ Some files → (out : List ℕ) × (left : Files)
+        × Took (K.taken report.old) (K.taken report.new) out × (S.files shelf.new ≡ Some left)
+        × EndsRun files graph.now script.now (record { out = out; files = left; before = before; now = now }) result }
     ensures asked { result ≡ Status.Usage → ⊥ }
-    ensures stored { S.files shelf.new ≡ S.files shelf.old }
     ensures read { result ≡ Status.ReadFault
         → ReadRose (S.files shelf.old) graph.now script.now (S.read_faults shelf.old) (S.read_faults shelf.new)
-        × Took (K.taken report.old) (K.taken report.new) [] }
-    ensures write { result ≡ Status.WriteFault → Rose (K.faults report.old) (K.faults report.new) }
+        × Took (K.taken report.old) (K.taken report.new) [] × (S.files shelf.new ≡ S.files shelf.old) }
+    ensures write { result ≡ Status.WriteFault → Rose (K.faults report.old) (K.faults report.new)
+        ⊎ ((name : List ℕ) × Rose (S.store_faults shelf.old name) (S.store_faults shelf.new name)) }
 {
     let bytes = match read_whole(alloc, shelf, graph, GRAPH_LIMIT) {
         Ok(bytes) => bytes,
@@ -100,16 +114,10 @@ fn run_files<S: Shelf, K: Sink>(
         Err(InFault::TooLong) => return Status::TooLong,
         Err(InFault::Memory) => return Status::Memory,
     };
-    let GraphFile { labels, links } = match read_graph(alloc, bytes.as_slice()) {
-        Ok(file) => file,
-        Err(GraphFault::NotYet) => {
-            return if write_piece(report, NOT_YET).is_err() {
-                Status::WriteFault
-            } else {
-                Status::BadGraph
-            };
-        }
-        Err(GraphFault::Memory) => return Status::Memory,
+    let doc = match read_doc(alloc, bytes.as_slice()) {
+        Ok(doc) => doc,
+        Err(DocFault::Lgf(fault)) => return refuse_graph(alloc, &fault, report),
+        Err(DocFault::Memory) => return Status::Memory,
     };
     let text = match read_whole(alloc, shelf, script, SCRIPT_LIMIT) {
         Ok(text) => text,
@@ -117,10 +125,26 @@ fn run_files<S: Shelf, K: Sink>(
         Err(InFault::TooLong) => return Status::TooLong,
         Err(InFault::Memory) => return Status::Memory,
     };
-    let Ok(mut world) = World::load(alloc, labels, links.as_slice()) else {
+    let Ok(mut world) = World::load(alloc, doc) else {
         return Status::Memory;
     };
-    run_script(alloc, &mut world, text.as_slice(), report)
+    run_script(alloc, &mut world, text.as_slice(), shelf, report)
+}
+
+// Writes why the graph file is none.
+fn refuse_graph<K: Sink>(alloc: Global, fault: &LgfFault, report: &mut K) -> Status
+    ensures told { (out : List ℕ) × Took (K.taken report.old) (K.taken report.new) out
+        × RefusesGraph fault.now out (K.faults report.old) (K.faults report.new) result }
+    ensures writes { K.faults report.old ≤ K.faults report.new }
+{
+    let Ok(text) = graph_fault_bytes(alloc, fault) else {
+        return Status::Memory;
+    };
+    if write_piece(report, text.as_slice()).is_err() {
+        Status::WriteFault
+    } else {
+        Status::BadGraph
+    }
 }
 
 // The names of the graph and of the script, where the words have that shape.

@@ -42,8 +42,8 @@ impl Head {
     }
 }
 
-// The place of the column of labels.
-fn find_label(columns: &[Text]) -> Option<usize>
+/// The place of the column `label`. None where there is none.
+pub fn find_label(columns: &[Text]) -> Option<usize>
     ensures { result ≡ position (bytes_eq documents.label) columns.now }
 {
     columns

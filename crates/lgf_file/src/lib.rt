@@ -16,6 +16,7 @@ mod writing;
 
 pub use documents::{Doc, Link, Table};
 pub use faults::{DocFault, LgfFault, LgfKind};
+pub use heads::find_label;
 pub use laws::{fault_spells_none, one_document, one_fault, plain_spells};
 pub use reading::read_doc;
 pub use writing::doc_bytes;

@@ -1,6 +1,5 @@
-pub mod Lines
-pub mod PlainForm
 pub mod World
+pub mod Documents
 pub mod Steps
 pub mod Texts
 pub mod Runs

@@ -1,5 +1,5 @@
 -- The outcome: what words and files come to, by cases on the status.
-use Rattle.std.specs.Prelude.{◌≡◌, ℕ, true, false, List, [], ◌∷◌, codes, map, take, ◌⊎◌, Option, Some}
+use Rattle.std.specs.Prelude.{◌≡◌, ℕ, true, false, List, [], ◌∷◌, codes, map, take, ◌⊎◌, Option, Some, Contains}
 use Rattle.std.specs.declared.vec.Vec.{Vec}
 use Rattle.std.specs.declared.alloc.Global.{Global}
 use Rattle.edge_io.specs.Causes.{Rose}
@@ -8,9 +8,15 @@ use Rattle.plain_machine.specs.declared.limits.TheConstants.{GRAPH_LIMIT, SCRIPT
 use Rattle.plain_machine.specs.declared.statuses.Status.{Status}
 use Rattle.plain_machine.specs.declared.statuses.Status.TheVariants as statuses
 use Rattle.token_text.specs.Lines.{lines_of}
-use Rattle.plain_machine.specs.PlainForm.{GraphFile, Spells}
+use Rattle.script_words.specs.Lines.{Says}
+use Rattle.script_words.specs.declared.commands.Command.TheVariants.{Save}
+use Rattle.lgf_file.specs.Documents.{Spells}
+use Rattle.lgf_file.specs.Laws.{HasFault}
+use Rattle.lgf_file.specs.declared.documents.Doc.{Doc}
+use Rattle.lgf_file.specs.declared.faults.LgfFault.{LgfFault}
+use Rattle.plain_machine.specs.Texts.{graph_fault_text}
 use Rattle.plain_machine.specs.World.{World, load}
-use Rattle.plain_machine.specs.Runs.{Finished, StoppedBefore, StoppedWithin}
+use Rattle.plain_machine.specs.Runs.{Finished, StoppedBefore, StoppedWithin, StoppedStoring}
 
 -- ---- words
 
@@ -34,23 +40,19 @@ AskNothing words = (graph script : List ℕ) → IsRun words graph script → �
 abbrev pub usage : List ℕ
 usage = codes "usage: lgdesk run GRAPH SCRIPT | make SEED N M | drill SEED K\n"
 
-abbrev pub not_yet : List ℕ
-not_yet = codes "! graph 1 NotYet\n"
-
 -- ---- files
 
--- the graph file is within its limit and spells this graph
-abbrev pub HasGraph : Files → List ℕ → GraphFile → Type 0
-HasGraph files graph file = (bytes : List ℕ) × HoldsWithin files graph GRAPH_LIMIT bytes × Spells bytes file
+-- the graph file is within its limit and spells this document
+abbrev pub HasGraph : Files → List ℕ → Doc → Type 0
+HasGraph files graph doc = (bytes : List ℕ) × HoldsWithin files graph GRAPH_LIMIT bytes × Spells bytes doc
 
--- it is within its limit and spells none
-abbrev pub HasNoGraph : Files → List ℕ → Type 0
-HasNoGraph files graph =
-    (bytes : List ℕ) × HoldsWithin files graph GRAPH_LIMIT bytes × ((file : GraphFile) → Spells bytes file → ⊥)
+-- it is within its limit and spells none, and this is its first fault
+abbrev pub HasBadGraph : Files → List ℕ → LgfFault → Type 0
+HasBadGraph files graph fault = (bytes : List ℕ) × HoldsWithin files graph GRAPH_LIMIT bytes × HasFault bytes fault
 
--- the bytes of the script are needed: those of the graph file spell a graph
+-- the bytes of the script are needed: those of the graph file spell a document
 abbrev pub NeedsScript : Files → List ℕ → Type 0
-NeedsScript files graph = (file : GraphFile) × HasGraph files graph file
+NeedsScript files graph = (doc : Doc) × HasGraph files graph doc
 
 -- a file whose bytes are needed is missing
 abbrev pub LacksNeeded : Files → List ℕ → List ℕ → Type 0
@@ -67,51 +69,84 @@ HasTooLong files graph script =
 abbrev pub IsPrefixOf : List ℕ → List ℕ → Type 0
 IsPrefixOf out text = (count : ℕ) × (out ≡ take count text)
 
--- from this world these lines write these bytes and come to this status
-abbrev pub Plays : World → List (List ℕ) → List ℕ → Status → Type 0
-Plays world lines out statuses.Done = Finished world lines false out
-Plays world lines out statuses.SomeRefused = Finished world lines true out
-Plays world lines out statuses.Usage = ⊥
-Plays world lines out statuses.BadGraph = ⊥
-Plays world lines out statuses.ReadFault = ⊥
-Plays world lines out statuses.WriteFault = StoppedWithin world lines out
-Plays world lines out statuses.Memory = StoppedBefore world lines out
-Plays world lines out statuses.TooLong = ⊥
+-- how often calls of the outside have failed: writes to the report, and stores to each file
+pub record Counts : Type 0 where
+  pub writes : ℕ
+  pub stores : List ℕ → ℕ
+
+-- what a call of the program leaves: the bytes that the report took, the files, and the counts before and then
+pub record Left : Type 0 where
+  pub out : List ℕ
+  pub files : Files
+  pub before : Counts
+  pub now : Counts
+
+-- a write to the report failed
+abbrev pub WriteRose : Left → Type 0
+WriteRose left = Rose left.before.writes left.now.writes
+
+-- a store to this file failed
+abbrev pub StoreRose : Left → List ℕ → Type 0
+StoreRose left name = Rose (left.before.stores name) (left.now.stores name)
+
+-- from this world and these files the lines leave this and come to this status
+abbrev pub Plays : World → Files → List (List ℕ) → Left → Status → Type 0
+Plays world files lines left statuses.Done = Finished world files lines false left.out left.files
+Plays world files lines left statuses.SomeRefused = Finished world files lines true left.out left.files
+Plays world files lines left statuses.Usage = ⊥
+Plays world files lines left statuses.BadGraph = ⊥
+Plays world files lines left statuses.ReadFault = ⊥
+Plays world files lines left statuses.WriteFault =
+    (StoppedWithin world files lines left.out left.files × WriteRose left)
+    ⊎ ((name : List ℕ) × StoppedStoring world files lines name left.out left.files × StoreRose left name)
+Plays world files lines left statuses.Memory = StoppedBefore world files lines left.out left.files
+Plays world files lines left statuses.TooLong = ⊥
 
 -- both files are as they should be, and the script is played on the graph
-abbrev pub PlaysFiles : Files → List ℕ → List ℕ → List ℕ → Status → Type 0
-PlaysFiles files graph script out status =
-    (file : GraphFile) × (text : List ℕ) × HasGraph files graph file × HoldsWithin files script SCRIPT_LIMIT text
-    × Plays (load file) (lines_of text) out status
+abbrev pub PlaysFiles : Files → List ℕ → List ℕ → Left → Status → Type 0
+PlaysFiles files graph script left status =
+    (doc : Doc) × (text : List ℕ) × HasGraph files graph doc × HoldsWithin files script SCRIPT_LIMIT text
+    × Plays (load doc) files (lines_of text) left status
+
+-- nothing went out, and no file was stored
+abbrev pub LeavesNothing : Files → Left → Type 0
+LeavesNothing files left = (left.out ≡ []) × (left.files ≡ files)
+
+-- this text went out, and no file was stored
+abbrev pub LeavesText : Files → List ℕ → Left → Type 0
+LeavesText files text left = (left.out ≡ text) × (left.files ≡ files)
+
+-- a prefix of this text went out before a write failed, and no file was stored
+abbrev pub LeavesPrefix : Files → List ℕ → Left → Type 0
+LeavesPrefix files text left = IsPrefixOf left.out text × (left.files ≡ files) × WriteRose left
 
 -- a run on these two files
-abbrev pub EndsRun : Files → List ℕ → List ℕ → List ℕ → Status → Type 0
-EndsRun files graph script out statuses.Done = PlaysFiles files graph script out statuses.Done
-EndsRun files graph script out statuses.SomeRefused = PlaysFiles files graph script out statuses.SomeRefused
-EndsRun files graph script out statuses.Usage = ⊥
-EndsRun files graph script out statuses.BadGraph = HasNoGraph files graph × (out ≡ not_yet)
-EndsRun files graph script out statuses.ReadFault = out ≡ []
-EndsRun files graph script out statuses.WriteFault =
-    (HasNoGraph files graph × IsPrefixOf out not_yet) ⊎ PlaysFiles files graph script out statuses.WriteFault
-EndsRun files graph script out statuses.Memory = (out ≡ []) ⊎ PlaysFiles files graph script out statuses.Memory
-EndsRun files graph script out statuses.TooLong = (out ≡ []) × HasTooLong files graph script
+abbrev pub EndsRun : Files → List ℕ → List ℕ → Left → Status → Type 0
+EndsRun files graph script left statuses.Done = PlaysFiles files graph script left statuses.Done
+EndsRun files graph script left statuses.SomeRefused = PlaysFiles files graph script left statuses.SomeRefused
+EndsRun files graph script left statuses.Usage = ⊥
+EndsRun files graph script left statuses.BadGraph =
+    (fault : LgfFault) × HasBadGraph files graph fault × LeavesText files (graph_fault_text fault) left
+EndsRun files graph script left statuses.ReadFault = LeavesNothing files left
+EndsRun files graph script left statuses.WriteFault =
+    ((fault : LgfFault) × HasBadGraph files graph fault × LeavesPrefix files (graph_fault_text fault) left)
+    ⊎ PlaysFiles files graph script left statuses.WriteFault
+EndsRun files graph script left statuses.Memory =
+    LeavesNothing files left ⊎ PlaysFiles files graph script left statuses.Memory
+EndsRun files graph script left statuses.TooLong = LeavesNothing files left × HasTooLong files graph script
 
--- words of no shape
-abbrev pub EndsUsage : List ℕ → Status → Type 0
-EndsUsage out statuses.Done = ⊥
-EndsUsage out statuses.SomeRefused = ⊥
-EndsUsage out statuses.Usage = out ≡ usage
-EndsUsage out statuses.BadGraph = ⊥
-EndsUsage out statuses.ReadFault = ⊥
-EndsUsage out statuses.WriteFault = IsPrefixOf out usage
-EndsUsage out statuses.Memory = ⊥
-EndsUsage out statuses.TooLong = ⊥
+-- words of no shape: the line on how to use the program went out, or a prefix of it before a write failed; the
+-- numbers are the counts of failed writes
+abbrev pub EndsUsage : List ℕ → ℕ → ℕ → Status → Type 0
+EndsUsage out before now statuses.Usage = out ≡ usage
+EndsUsage out before now statuses.WriteFault = IsPrefixOf out usage × Rose before now
+EndsUsage out before now _ = ⊥
 
--- what these words and files come to: these bytes and this status
-abbrev pub Outcome : List (List ℕ) → Files → List ℕ → Status → Type 0
-Outcome words files out status =
-    (AskNothing words × EndsUsage out status)
-    ⊎ ((graph : List ℕ) × (script : List ℕ) × IsRun words graph script × EndsRun files graph script out status)
+-- what these words and files come to: what is left, and the status
+abbrev pub Outcome : List (List ℕ) → Files → Left → Status → Type 0
+Outcome words files left status =
+    (AskNothing words × EndsUsage left.out left.before.writes left.now.writes status × (left.files ≡ files))
+    ⊎ ((graph : List ℕ) × (script : List ℕ) × IsRun words graph script × EndsRun files graph script left status)
 
 -- ---- causes
 
@@ -142,3 +177,7 @@ EndsEarly statuses.ReadFault = Unit {0}
 EndsEarly statuses.WriteFault = Unit {0}
 EndsEarly statuses.Memory = Unit {0}
 EndsEarly statuses.TooLong = ⊥
+
+-- A line saves to this file.
+abbrev pub SavesTo : List (List ℕ) → List ℕ → Type 0
+SavesTo lines name = (line : List ℕ) × Contains lines line × Says line (Save name)

@@ -1,62 +1,70 @@
--- The text of each answer, as the report has it.
-use Rattle.std.specs.Prelude.{ℕ, Bool, true, false, List, [], ◌∷◌, ◌++◌, length, codes}
+-- What answers print, and what they store.
+use Rattle.std.specs.Prelude.{ℕ, Bool, true, false, List, [], ◌∷◌, ◌++◌, codes}
 use Rattle.std.specs.List.{flat_map, list_any}
 use Rattle.std.specs.Fmt.{decimal}
-use Rattle.base_items.specs.declared.items.ItemSort.{ItemSort}
-use Rattle.base_items.specs.declared.items.ItemSort.TheVariants as sorts
-use Rattle.plain_machine.specs.declared.faults.Fault.{Fault}
-use Rattle.plain_machine.specs.declared.faults.Fault.TheVariants as faults
-use Rattle.plain_machine.specs.Steps.{Answer, NodeLine, ArcLine, quiet, nodes, arcs, refused, limit_of}
+use Rattle.edge_io.specs.Files.{Files}
+use Rattle.std.specs.FinMap as fin
+use Rattle.lgf_file.specs.declared.faults.LgfFault.{LgfFault}
+use Rattle.lgf_file.specs.declared.faults.LgfKind.{LgfKind}
+use Rattle.lgf_file.specs.declared.faults.LgfKind.TheVariants as kinds
+use Rattle.report_text.specs.Texts.{reply_text, fault_text}
+use Rattle.report_text.specs.declared.replies.Reply.TheVariants as replies
+use Rattle.plain_machine.specs.declared.answers.Answer.{Answer}
+use Rattle.plain_machine.specs.declared.answers.Answer.TheVariants.{Answered, Refused}
 
--- n ID NAME
-abbrev pub node_text : NodeLine → List ℕ
-node_text node = codes "n " ++ decimal node.id ++ 32 ∷ node.name ++ 10 ∷ []
+-- ---- texts
 
--- a ID NAME FROM TO
-abbrev pub arc_text : ArcLine → List ℕ
-arc_text arc = codes "a " ++ decimal arc.id ++ 32 ∷ arc.name ++ 32 ∷ arc.from ++ 32 ∷ arc.to ++ 10 ∷ []
-
-abbrev pub sort_name : ItemSort → List ℕ
-sort_name sorts.Node = codes "nodes"
-sort_name sorts.Arc = codes "arcs"
-
--- nodes COUNT, or arcs COUNT
-abbrev pub count_text : ItemSort → ℕ → List ℕ
-count_text sort count = sort_name sort ++ 32 ∷ decimal count ++ 10 ∷ []
-
--- the fault's number, its name and what it keeps
-abbrev pub fault_words : Fault → List ℕ
-fault_words (faults.BadLine column) = codes "1 BadLine " ++ decimal column
-fault_words (faults.Unknown name) = codes "2 Unknown " ++ name
-fault_words (faults.Taken name) = codes "3 Taken " ++ name
-fault_words (faults.Full sort) = codes "13 Full " ++ sort_name sort ++ 32 ∷ decimal (limit_of sort)
-
--- ! LINE NUMBER NAME ..
-abbrev pub fault_text : ℕ → Fault → List ℕ
-fault_text line fault = codes "! " ++ decimal line ++ 32 ∷ fault_words fault ++ 10 ∷ []
-
-abbrev pub listing_of_nodes : List NodeLine → List ℕ
-listing_of_nodes lines = flat_map node_text lines ++ count_text sorts.Node (length lines)
-
-abbrev pub listing_of_arcs : List ArcLine → List ℕ
-listing_of_arcs lines = flat_map arc_text lines ++ count_text sorts.Arc (length lines)
-
--- the text of the answer to the line with this number
+-- The text of the answer to the line with this number.
 abbrev pub answer_text : ℕ → Answer → List ℕ
-answer_text line quiet = []
-answer_text line (nodes lines) = listing_of_nodes lines
-answer_text line (arcs lines) = listing_of_arcs lines
-answer_text line (refused fault) = fault_text line fault
+answer_text line (Answered reply) = reply_text reply
+answer_text line (Refused fault) = fault_text line fault
 
 abbrev pub is_refused : Answer → Bool
-is_refused quiet = false
-is_refused (nodes lines) = false
-is_refused (arcs lines) = false
-is_refused (refused fault) = true
+is_refused (Answered reply) = false
+is_refused (Refused fault) = true
 
--- the text of some answers, each with the number of its line
+-- The text of some answers, each with the number of its line.
 abbrev pub report_of : List (ℕ × Answer) → List ℕ
 report_of answers = flat_map (λ a. answer_text a.0 a.1) answers
 
 abbrev pub has_refusal : List (ℕ × Answer) → Bool
 has_refusal answers = list_any (λ a. is_refused a.1) answers
+
+abbrev pub kind_name : LgfKind → List ℕ
+kind_name kinds.NoNodes = codes "NoNodes"
+kind_name kinds.NoArcs = codes "NoArcs"
+kind_name kinds.ArcsFirst = codes "ArcsFirst"
+kind_name kinds.Token = codes "Token"
+kind_name kinds.TooMany = codes "TooMany"
+kind_name kinds.DashColumn = codes "DashColumn"
+kind_name kinds.TwiceColumn = codes "TwiceColumn"
+kind_name kinds.NoLabel = codes "NoLabel"
+kind_name kinds.ShortRow = codes "ShortRow"
+kind_name kinds.LongRow = codes "LongRow"
+kind_name kinds.UnknownLabel = codes "UnknownLabel"
+kind_name kinds.TwiceLabel = codes "TwiceLabel"
+kind_name kinds.TwiceAttribute = codes "TwiceAttribute"
+
+-- ! graph LINE KIND
+abbrev pub graph_fault_text : LgfFault → List ℕ
+graph_fault_text fault = codes "! graph " ++ decimal fault.line ++ 32 ∷ kind_name fault.kind ++ 10 ∷ []
+
+-- ---- saves
+
+-- A file that an answer stores: its name and its bytes.
+abbrev pub Saved : Type 0
+Saved = List ℕ × List ℕ
+
+-- The file that the answer stores, if any.
+abbrev pub saves_of : Answer → List Saved
+saves_of (Answered (replies.Save name bytes)) = (name, bytes) ∷ []
+saves_of _ = []
+
+-- The files that answers store, in their order.
+abbrev pub all_saves : List (ℕ × Answer) → List Saved
+all_saves answers = flat_map (λ a. saves_of a.1) answers
+
+-- The files after some saves.
+abbrev pub overwritten : Files → List Saved → Files
+overwritten files [] = files
+overwritten files (save ∷ saves) = overwritten (fin.insert files save.0 save.1) saves

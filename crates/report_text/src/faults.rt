@@ -1,6 +1,10 @@
 //! Why a line is refused.
 
+ghost use Rattle.std.specs.Prelude.{◌≡◌};
+ghost use Rattle.report_text.specs.declared.faults.StepFault.TheVariants.{Memory as NoMemory};
+
 use base_items::ItemSort;
+use std::alloc::{AllocError, AllocFailed};
 use token_text::Text;
 
 /// Why a line of a script is refused, with the names and numbers that its text shows.
@@ -47,4 +51,20 @@ pub enum StepFault {
     Refused(Fault),
     /// Memory ran out.
     Memory,
+}
+
+impl From<AllocError> for StepFault {
+    ghost from_gives = { λ _ fault. fault ≡ NoMemory };
+
+    fn from(_: AllocError) -> StepFault {
+        StepFault::Memory
+    }
+}
+
+impl<T: Drop> From<AllocFailed<T>> for StepFault {
+    ghost from_gives = { λ _ fault. fault ≡ NoMemory };
+
+    fn from(_: AllocFailed<T>) -> StepFault {
+        StepFault::Memory
+    }
 }

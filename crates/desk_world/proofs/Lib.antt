@@ -1,0 +1,12 @@
+pub mod Walked
+pub mod Seen
+pub mod Tables
+pub mod Allowed
+pub mod Listed
+pub mod Counted
+pub mod Fitted
+pub mod Labels
+pub mod Columns
+pub mod Loaded
+pub mod Rising
+pub mod Whole

@@ -1,0 +1,5 @@
+pub mod Fitting
+pub mod Lines
+pub mod Links
+pub mod Refusals
+pub mod Seen

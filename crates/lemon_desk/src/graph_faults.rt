@@ -1,0 +1,42 @@
+//! The text that refuses a graph file.
+
+ghost use Rattle.std.specs.Prelude.{◌≡◌, IfOk};
+ghost use Rattle.plain_machine.specs.Texts as texts;
+
+use itoa::Buffer;
+use lgf_file::{LgfFault, LgfKind};
+use std::alloc::{AllocError, Global};
+
+/// The text `! graph LINE KIND` of the first fault of a graph file.
+pub fn graph_fault_bytes(alloc: Global, fault: &LgfFault) -> Result<Vec<u8>, AllocError>
+    ensures { IfOk result (λ text. text.items ≡ texts.graph_fault_text fault.now) }
+{
+    let mut text = Vec::new(alloc);
+    let mut buffer = Buffer::new();
+    text.extend_from_slice(b"! graph ")?;
+    text.extend_from_slice(buffer.format(fault.line).as_bytes())?;
+    text.push(b' ')?;
+    text.extend_from_slice(kind_name(fault.kind))?;
+    text.push(b'\n')?;
+    Ok(text)
+}
+
+fn kind_name(kind: LgfKind) -> &'static [u8]
+    ensures { result.now ≡ texts.kind_name kind }
+{
+    match kind {
+        LgfKind::NoNodes => b"NoNodes",
+        LgfKind::NoArcs => b"NoArcs",
+        LgfKind::ArcsFirst => b"ArcsFirst",
+        LgfKind::Token => b"Token",
+        LgfKind::TooMany => b"TooMany",
+        LgfKind::DashColumn => b"DashColumn",
+        LgfKind::TwiceColumn => b"TwiceColumn",
+        LgfKind::NoLabel => b"NoLabel",
+        LgfKind::ShortRow => b"ShortRow",
+        LgfKind::LongRow => b"LongRow",
+        LgfKind::UnknownLabel => b"UnknownLabel",
+        LgfKind::TwiceLabel => b"TwiceLabel",
+        LgfKind::TwiceAttribute => b"TwiceAttribute",
+    }
+}
