@@ -6,6 +6,8 @@ mod edge;
 mod graph_faults;
 mod script;
 pub mod serve;
+#[cfg(test)]
+mod tests;
 
 use edge::{FileShelf, OutSink};
 use plain_machine::Status;
