@@ -9,6 +9,7 @@ use Rattle.report_text.specs.declared.faults.Fault.TheVariants as faults
 use Rattle.plain_machine.specs.World.{World, IsNamed, HasName, LacksName}
 use Rattle.plain_machine.specs.Steps.{Refuses, NamesUnknown}
 
+-- Nothing refuses a node with a new label, where there is room.
 pub node_allowed : (w : World) (label : List ℕ) → LacksName w.nodes label → (count_of w.graph sorts.Node ≡ MAX_NODES → ⊥)
     → (fault : Fault) → Refuses w (AddNode label) fault → ⊥
 node_allowed w label lacks room (faults.Unknown name) h = h
@@ -23,6 +24,7 @@ ends_known w label from to u v source target name = ⊎_elim
     (λ (h : (name ≡ from) × LacksName w.nodes from). h.1 u source)
     (λ (h : (name ≡ to) × HasName w.nodes from × LacksName w.nodes to). h.2 v target)
 
+-- Nothing refuses an arc with a new label between nodes, where there is room.
 pub arc_allowed : (w : World) (label from to : List ℕ) (u v : ℕ) → IsNamed w.nodes u from → IsNamed w.nodes v to
     → LacksName w.arcs label → (count_of w.graph sorts.Arc ≡ MAX_ARCS → ⊥)
     → (fault : Fault) → Refuses w (AddArc label from to) fault → ⊥

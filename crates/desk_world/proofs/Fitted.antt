@@ -37,6 +37,7 @@ lacks_more attached id name other texts lacks apart place named = ⊎_elim
     (λ (e : place ≡ id → ⊥). lacks place (sym (get_other attached.labels id name place e) ∙ named))
     (cases_eq place id)
 
+-- So are names that are all others.
 all_lack_more : (attached : Attached) (id : ℕ) (name : List ℕ) (texts : Cells) (names : List (List ℕ)) → LacksAll attached names
     → is_among name names ≡ false → LacksAll (attach attached id name texts) names
 all_lack_more attached id name texts [] lacks apart = tt
@@ -67,6 +68,7 @@ column_within columns (Some place) is = (position-Some (bytes_eq label) columns 
 
 -- ---- nodes
 
+-- Rows whose labels differ and are new fit, where there is room.
 pub fit_rows : (world : World) (place : Option ℕ) (rows : List Cells) (nodes arcs : ℕ) → IsCounted world.graph nodes arcs
     → LacksAll world.nodes (row_labels place nodes rows) → has_twice (row_labels place nodes rows) ≡ false
     → All (IsWide place (length world.nodes.columns)) rows → nodes + length rows ≤ MAX_NODES → arcs ≤ MAX_ARCS
@@ -96,6 +98,7 @@ fit_rows world place (cells ∷ rows) nodes arcs counted lacks differ wide few f
 abbrev pub JoinsNodes : Option ℕ → ℕ → ℕ → Link → Type 0
 JoinsNodes place width nodes link = IsWide place width link.values × (link.from < nodes) × (link.to < nodes)
 
+-- So do arcs between nodes that are there.
 pub fit_links : (world : World) (place : Option ℕ) (links : List Link) (nodes arcs : ℕ) → IsCounted world.graph nodes arcs
     → LacksAll world.arcs (row_labels place arcs (map (λ link. link.values) links))
     → has_twice (row_labels place arcs (map (λ link. link.values) links)) ≡ false

@@ -11,14 +11,12 @@ use Rattle.lgf_file.specs.Rows.{Cells}
 use Rattle.lgf_file.specs.Documents.{IsDoc, AreColumns, label, label_in}
 use Rattle.lgf_file.specs.declared.documents.Doc.{Doc}
 use Rattle.lgf_file.specs.declared.documents.Link.{Link}
-use Rattle.plain_digraph.specs.Digraph.{Digraph, empty}
 use Rattle.list_digraph.specs.Falling.{newest_first}
 use Rattle.plain_machine.specs.World.{World, Attached, LacksName, no_items, label_column, item_label, item_texts, put_node, put_arc, add_rows, add_links, opened, load}
 use Rattle.plain_digraph.specs.Steps.{new_node, new_arc}
 use Rattle.desk_world.specs.declared.rows.ItemRows.{ItemRows}
 use Rattle.desk_world.specs.Seen.{seen, AreRows}
 use Rattle.desk_world.specs.Fitting.{FitRows, FitLinks}
-use Rattle.desk_world.proofs.Listed.{seen_world}
 use Rattle.desk_world.proofs.Counted.{IsCounted, empty_counted, node_counted, arc_counted}
 use Rattle.desk_world.proofs.Columns.{label_in_front}
 use Rattle.desk_world.proofs.Labels.{row_labels, labels_apart}
@@ -27,7 +25,7 @@ use Rattle.desk_world.proofs.Fitted.{LacksAll, IsWide, wide_row, column_within, 
 -- ---- no items
 
 -- Rows of no items are seen so.
-seen_new : (rows : ItemRows) (columns : Cells) → rows.labels ≡ [] → rows.texts.items ≡ []
+pub seen_new : (rows : ItemRows) (columns : Cells) → rows.labels ≡ [] → rows.texts.items ≡ []
     → rows.columns ≡ item_texts (label_column columns) columns → seen rows ≡ no_items columns
 seen_new rows columns labels texts names = λ i. record {
   labels = fin.from_entries (newest_first (labels i));
@@ -35,25 +33,18 @@ seen_new rows columns labels texts names = λ i. record {
   texts = fin.from_entries (newest_first (texts i));
 }
 
--- A world without items is seen as that of a document that is opened.
-pub seen_opened : (doc : Doc) (graph : Digraph) (nodes arcs : ItemRows) → graph ≡ empty
-    → nodes.labels ≡ [] → nodes.texts.items ≡ [] → nodes.columns ≡ item_texts (label_column doc.nodes.columns) doc.nodes.columns
-    → arcs.labels ≡ [] → arcs.texts.items ≡ [] → arcs.columns ≡ item_texts (label_column doc.arc_columns) doc.arc_columns
-    → seen_world graph nodes arcs doc.attributes ≡ opened doc
-seen_opened doc graph nodes arcs none node_labels node_texts node_columns arc_labels arc_texts arc_columns =
-    let nodes_are = seen_new nodes doc.nodes.columns node_labels node_texts node_columns in
-    let arcs_are = seen_new arcs doc.arc_columns arc_labels arc_texts arc_columns in
-    (λ i. record { graph = none i; nodes = nodes_are i; arcs = arcs_are i; attributes = doc.attributes })
-
+-- No item has a name.
 none_lacks : (columns : Cells) (name : List ℕ) → LacksName (no_items columns) name
 none_lacks columns name place named = none-some name (sym (fin.get-empty nat_cmp place) ∙ named)
 
+-- No item has one of some names.
 none_lack_all : (columns : Cells) (names : List (List ℕ)) → LacksAll (no_items columns) names
 none_lack_all columns [] = tt
 none_lack_all columns (name ∷ names) = (none_lacks columns name, none_lack_all columns names)
 
 -- ---- counts
 
+-- So many nodes more.
 rows_counted : (world : World) (place : Option ℕ) (rows : List Cells) (nodes arcs : ℕ) → IsCounted world.graph nodes arcs
     → IsCounted (add_rows world place rows).graph (nodes + length rows) arcs
 rows_counted world place [] nodes arcs counted = subst (λ n. IsCounted world.graph n arcs) (sym (add-zero nodes)) counted
@@ -63,6 +54,7 @@ rows_counted world place (cells ∷ rows) nodes arcs counted =
     subst (λ n. IsCounted (add_rows put place rows).graph n arcs) total
     (rows_counted put place rows (suc nodes) arcs (node_counted world.graph nodes arcs counted))
 
+-- So many arcs more.
 links_counted : (world : World) (place : Option ℕ) (links : List Link) (nodes arcs : ℕ) → IsCounted world.graph nodes arcs
     → IsCounted (add_links world place links).graph nodes (arcs + length links)
 links_counted world place [] nodes arcs counted = subst (IsCounted world.graph nodes) (sym (add-zero arcs)) counted
@@ -80,6 +72,16 @@ rows_apart world place (cells ∷ rows) =
 
 -- ---- a valid document
 
+-- The world of a document, before its arcs are put.
+abbrev pub with_rows : Doc → World
+with_rows doc = add_rows (opened doc) (label_column doc.nodes.columns) doc.nodes.rows
+
+-- Rows that were put onto the world that is opened for the document.
+pub rows_put : (doc : Doc) (start later : World) (place : Option ℕ) → start ≡ opened doc → place ≡ label_column doc.nodes.columns
+    → later ≡ add_rows start place doc.nodes.rows → later ≡ with_rows doc
+rows_put doc start later place start_is place_is put =
+    put ∙ ap (λ (w : World). add_rows w place doc.nodes.rows) start_is ∙ ap (λ own. add_rows (opened doc) own doc.nodes.rows) place_is
+
 module _ (doc : Doc) (valid : IsDoc doc) where
   -- Its nodes may be put one after the other.
   pub doc_rows_fit : FitRows (opened doc) (label_column doc.nodes.columns) doc.nodes.rows
@@ -93,17 +95,18 @@ module _ (doc : Doc) (valid : IsDoc doc) where
       (λ k d below. wide_row place doc.nodes.columns (slice_index_or doc.nodes.rows k d) (column_within doc.nodes.columns place refl) (table.wide k d below))
       (omega (arith, table.few)) (omega arith)
 
-  rows_are : IsCounted (add_rows (opened doc) (label_column doc.nodes.columns) doc.nodes.rows).graph (length doc.nodes.rows) 0
+  -- Its nodes are as many as its rows.
+  rows_are : IsCounted (with_rows doc).graph (length doc.nodes.rows) 0
   rows_are =
-      subst (λ n. IsCounted (add_rows (opened doc) (label_column doc.nodes.columns) doc.nodes.rows).graph n 0) (zero-add (length doc.nodes.rows))
+      subst (λ n. IsCounted (with_rows doc).graph n 0) (zero-add (length doc.nodes.rows))
       (rows_counted (opened doc) (label_column doc.nodes.columns) doc.nodes.rows 0 0 empty_counted)
 
   -- Its arcs may be put one after the other.
-  pub doc_links_fit : FitLinks (add_rows (opened doc) (label_column doc.nodes.columns) doc.nodes.rows) (label_column doc.arc_columns) doc.arcs
+  pub doc_links_fit : FitLinks (with_rows doc) (label_column doc.arc_columns) doc.arcs
   doc_links_fit =
       let arcs = valid.arcs_ok in
       let place = label_column doc.arc_columns in
-      let start = add_rows (opened doc) (label_column doc.nodes.columns) doc.nodes.rows in
+      let start = with_rows doc in
       let values = map (λ (link : Link). link.values) doc.arcs in
       let none : start.arcs ≡ no_items doc.arc_columns = rows_apart (opened doc) (label_column doc.nodes.columns) doc.nodes.rows in
       let width : length start.arcs.columns ≡ length (item_texts place doc.arc_columns) = ap (λ (own : Attached). length own.columns) none in
@@ -124,7 +127,7 @@ module _ (doc : Doc) (valid : IsDoc doc) where
   -- Its world has used a stamp for each row.
   pub load_stamps : (load doc).graph.stamps ≤ MAX_NODES + MAX_ARCS
   load_stamps =
-      let counted = links_counted (add_rows (opened doc) (label_column doc.nodes.columns) doc.nodes.rows) (label_column doc.arc_columns) doc.arcs (length doc.nodes.rows) 0 rows_are in
+      let counted = links_counted (with_rows doc) (label_column doc.arc_columns) doc.arcs (length doc.nodes.rows) 0 rows_are in
       omega (arith, counted.stamps_counted, valid.nodes_ok.few, valid.arcs_ok.few)
 
 -- The rows of no items fit, whatever the columns.

@@ -21,23 +21,26 @@ use Rattle.desk_world.specs.Seen.{seen, AreRows, HasRows}
 
 -- ---- names
 
+-- The item at the place of a label has this name.
 pub named_at : (rows : ItemRows) (place : ℕ) (name : List ℕ) → slice_get rows.labels place ≡ Some name
     → IsNamed (seen rows) place name
 named_at rows place name found = get_newest_first rows.labels place ∙ found
 
+-- A name that is none of the labels stands at no place.
 none_at : (labels : Cells) (place : ℕ) (name : List ℕ) → IsNoneOf name labels → slice_get labels place ≡ Some name → ⊥
 none_at [] place name none found = absurd (cc)
-none_at (label ∷ labels) zero name none found = none.0 (sym (same_Some label name found))
-none_at (label ∷ labels) (suc place) name none found = none_at labels place name none.1 found
+none_at (first ∷ labels) zero name none found = none.0 (sym (same_Some first name found))
+none_at (first ∷ labels) (suc place) name none found = none_at labels place name none.1 found
 
 -- A name that is none of the labels is no item's.
 pub name_lacks : (rows : ItemRows) (name : List ℕ) → IsNoneOf name rows.labels → LacksName (seen rows) name
 name_lacks rows name none place named =
     none_at rows.labels place name none (sym (get_newest_first rows.labels place) ∙ named)
 
+-- A name that stands at no place is none of the labels.
 none_from : (labels : Cells) (name : List ℕ) → ((place : ℕ) → slice_get labels place ≡ Some name → ⊥) → IsNoneOf name labels
 none_from [] name apart = tt
-none_from (label ∷ labels) name apart =
+none_from (first ∷ labels) name apart =
     (λ same. apart 0 (ap Some (sym same)), none_from labels name (λ place found. apart (suc place) found))
 
 -- A name that no item has is none of the labels.
@@ -45,14 +48,15 @@ pub lacks_name : (rows : ItemRows) (name : List ℕ) → LacksName (seen rows) n
 lacks_name rows name lacks =
     none_from rows.labels name (λ place found. lacks place (named_at rows place name found))
 
+-- A label is seen at its place.
 pub label_seen : (rows : ItemRows) (id : ℕ) → label_of (seen rows) id ≡ label_at rows.labels id
 label_seen rows id = ap (λ o. unwrap_or o []) (get_newest_first rows.labels id) ∙ unwrap_or-slice_get rows.labels id []
 
 -- A label that is found stands at a place of the table.
 pub found_below : (labels : Cells) (place : ℕ) (name : List ℕ) → slice_get labels place ≡ Some name → place < length labels
 found_below [] place name found = absurd (cc)
-found_below (label ∷ labels) zero name found = omega arith
-found_below (label ∷ labels) (suc place) name found = omega (arith, found_below labels place name found)
+found_below (first ∷ labels) zero name found = omega arith
+found_below (first ∷ labels) (suc place) name found = omega (arith, found_below labels place name found)
 
 -- ---- one item more
 

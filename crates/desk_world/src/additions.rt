@@ -17,7 +17,7 @@ use token_text::{Text, copy_text};
 
 impl World {
     /// Puts a node with this label and these texts. Where memory runs out the world is as before.
-    pub fn put_node(&mut self, label: Text, texts: List<Text>) -> Result<(), AllocError>
+    pub(crate) fn put_node(&mut self, label: Text, texts: List<Text>) -> Result<(), AllocError>
         requires { FitsNode self.old label texts }
         ensures put { OnOk result (self.new ≡ rules.put_node self.old label texts) }
         ensures unchanged { OnErr result (self.new ≡ self.old) }
@@ -35,7 +35,7 @@ impl World {
 
     /// Puts an arc with this label and these texts between two nodes. Where memory runs out the world is as
     /// before.
-    pub fn put_arc(
+    pub(crate) fn put_arc(
         &mut self,
         label: Text,
         texts: List<Text>,
@@ -58,7 +58,7 @@ impl World {
     }
 
     /// Adds a node with this label. It needs a stamp.
-    pub fn add_node(&mut self, alloc: Global, label: &Text) -> Result<(), StepFault>
+    pub(crate) fn add_node(&mut self, alloc: Global, label: &Text) -> Result<(), StepFault>
         requires { self.old.graph.stamps < MAX_STAMP }
         ensures added { OnOk result (self.new ≡ rules.add_node self.old label.now) }
         ensures allowed { OnOk result ((fault : PlainFault) → Refuses self.old (Command.AddNode label.now) fault → ⊥) }
@@ -79,7 +79,7 @@ impl World {
 
     /// Adds an arc with this label from one node to another, which are named by their labels. It needs
     /// a stamp.
-    pub fn add_arc(
+    pub(crate) fn add_arc(
         &mut self,
         alloc: Global,
         label: &Text,

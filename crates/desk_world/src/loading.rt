@@ -8,7 +8,7 @@ ghost use Rattle.desk_world.specs.Fitting.{FitRows, FitLinks, IsWithin};
 use crate::world::World;
 use base_items::List;
 use itoa::Buffer;
-use lgf_file::Link;
+use lgf_file::{Link, find_label};
 use std::alloc::{AllocError, Global};
 use token_text::{Text, copy_text};
 
@@ -47,11 +47,10 @@ fn split_row(
 }
 
 /// The columns but that of the labels.
-pub fn without_label(place: Option<usize>, columns: List<Text>) -> List<Text>
-    requires { IsWithin place columns }
-    ensures { result ≡ rules.item_texts place columns }
+pub fn without_label(columns: List<Text>) -> List<Text>
+    ensures { result ≡ rules.item_texts (rules.label_column columns) columns }
 {
-    let Some(place) = place else {
+    let Some(place) = find_label(columns.as_slice()) else {
         return columns;
     };
     let mut rest = columns.into_vec();
@@ -61,7 +60,7 @@ pub fn without_label(place: Option<usize>, columns: List<Text>) -> List<Text>
 
 impl World {
     /// Puts nodes with the cells of these rows, whose labels stand at this place.
-    pub fn add_rows(
+    pub(crate) fn add_rows(
         &mut self,
         alloc: Global,
         place: Option<usize>,
@@ -79,7 +78,7 @@ impl World {
     }
 
     /// Puts these arcs, whose labels stand at this place, or are their ids.
-    pub fn add_links(
+    pub(crate) fn add_links(
         &mut self,
         alloc: Global,
         place: Option<usize>,

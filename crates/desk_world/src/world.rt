@@ -1,7 +1,8 @@
 //! The world: a digraph, labels and texts of its items, and attributes.
 
 ghost use Rattle.std.specs.Prelude.{◌≡◌, ◌+◌, ◌<◌, ◌≤◌, true, IfOk, IfErr, OnErr};
-ghost use Rattle.lgf_file.specs.Documents.{IsDoc};
+ghost use Rattle.lgf_file.specs.Documents.{IsDoc, AreColumns, AreAttributes};
+ghost use Rattle.plain_digraph.specs.Digraph.{empty};
 ghost use Rattle.plain_machine.specs.World as rules;
 ghost use Rattle.lgf_file.specs.Plain.{plain};
 ghost use Rattle.plain_machine.specs.Documents.{doc_of};
@@ -63,15 +64,30 @@ impl World {
         let Table { columns, rows } = nodes;
         let node_place = find_label(columns.as_slice());
         let arc_place = find_label(arc_columns.as_slice());
-        let mut world = World {
-            graph: ListDigraph::new(alloc),
-            nodes: ItemRows::new(alloc, without_label(node_place, columns)),
-            arcs: ItemRows::new(alloc, without_label(arc_place, arc_columns)),
-            attributes,
-        };
+        let mut world = World::new(alloc, columns, arc_columns, attributes);
         world.add_rows(alloc, node_place, rows)?;
         world.add_links(alloc, arc_place, arcs)?;
         Ok(world)
+    }
+
+    // The world without items, with these columns but that of the labels.
+    fn new(
+        alloc: Global,
+        node_columns: List<Text>,
+        arc_columns: List<Text>,
+        attributes: List<(Text, Text)>,
+    ) -> World
+        requires node_columns { AreColumns node_columns }
+        requires arc_columns { AreColumns arc_columns }
+        requires attributes { AreAttributes attributes }
+        ensures { result ≡ record { graph = empty; nodes = rules.no_items node_columns; arcs = rules.no_items arc_columns; attributes = attributes } }
+    {
+        World {
+            graph: ListDigraph::new(alloc),
+            nodes: ItemRows::new(alloc, without_label(node_columns)),
+            arcs: ItemRows::new(alloc, without_label(arc_columns)),
+            attributes,
+        }
     }
 
     /// What the command answers, if it is one that is [`built`]. It needs a stamp, and uses one at most.
