@@ -78,11 +78,6 @@ bad_there : (files : Files) (graph script : List ℕ) (fault : LgfFault) → Has
 bad_there files graph script fault h (inl lacks) = there files graph h.0 h.1.0 lacks
 bad_there files graph script fault h (inr lacks) = graph_or_bad files graph lacks.0.0 fault lacks.0.1 h
 
--- With a bad graph file no needed file is too long.
-bad_within : (files : Files) (graph script : List ℕ) (fault : LgfFault) → HasBadGraph files graph fault → HasTooLong files graph script → ⊥
-bad_within files graph script fault h (inl long) = within files graph h.0 GRAPH_LIMIT h.1 long
-bad_within files graph script fault h (inr long) = graph_or_bad files graph long.0.0 fault long.0.1 h
-
 -- Where a needed file is too long none is missing.
 long_there : (files : Files) (graph script : List ℕ) → HasTooLong files graph script → LacksNeeded files graph script → ⊥
 long_there files graph script (inl long) (inl lacks) = there files graph long.0 long.1 lacks
@@ -123,29 +118,39 @@ lacking files graph script left statuses.Memory l (inl h) = (inr refl, h.0, h.1)
 lacking files graph script left statuses.Memory l (inr h) = absurd (plays_there files graph script left statuses.Memory h l)
 lacking files graph script left statuses.TooLong l h = absurd (long_there files graph script h.1 l)
 
+-- The graph file spells no document.
+module _ (files : Files) (graph script bytes : List ℕ) (held : HoldsWithin files graph GRAPH_LIMIT bytes)
+    (none : (doc : Doc) → Spells bytes doc → ⊥) where
+  no_graph : (doc : Doc) → HasGraph files graph doc → ⊥
+  no_graph doc h = none doc (subst (λ own. Spells own doc) (one_file files graph h.0 bytes h.1.0 held.0) h.2)
+
+  not_long : HasTooLong files graph script → ⊥
+  not_long (inl long) = within files graph bytes GRAPH_LIMIT held long
+  not_long (inr long) = no_graph long.0.0 long.0.1
+
+  pub bad_graph : (left : Left) (status : Status) → EndsRun files graph script left status
+      → (status ≡ statuses.BadGraph) ⊎ EndsEarly status
+  bad_graph left statuses.Done h = absurd (no_graph h.0 h.2)
+  bad_graph left statuses.SomeRefused h = absurd (no_graph h.0 h.2)
+  bad_graph left statuses.Usage h = absurd h
+  bad_graph left statuses.BadGraph h = inl refl
+  bad_graph left statuses.ReadFault h = inr tt
+  bad_graph left statuses.WriteFault h = inr tt
+  bad_graph left statuses.Memory h = inr tt
+  bad_graph left statuses.TooLong h = absurd (not_long h.1)
+
 -- A needed file is too long.
 pub too_long : (files : Files) (graph script : List ℕ) (left : Left) (status : Status) → HasTooLong files graph script
     → EndsRun files graph script left status → (status ≡ statuses.TooLong) ⊎ EndsEarly status
 too_long files graph script left statuses.Done l h = absurd (plays_within files graph script left statuses.Done h l)
 too_long files graph script left statuses.SomeRefused l h = absurd (plays_within files graph script left statuses.SomeRefused h l)
 too_long files graph script left statuses.Usage l h = absurd h
-too_long files graph script left statuses.BadGraph l h = absurd (bad_within files graph script h.0 h.1 l)
+too_long files graph script left statuses.BadGraph l h =
+    absurd (not_long files graph script h.1.0 h.1.1 (λ doc spells. fault_spells_none h.1.0 h.0 doc h.1.2 spells) l)
 too_long files graph script left statuses.ReadFault l h = inr tt
 too_long files graph script left statuses.WriteFault l h = inr tt
 too_long files graph script left statuses.Memory l h = inr tt
 too_long files graph script left statuses.TooLong l h = inl refl
-
--- The graph file has a fault.
-pub bad_graph : (files : Files) (graph script : List ℕ) (fault : LgfFault) (left : Left) (status : Status) → HasBadGraph files graph fault
-    → EndsRun files graph script left status → (status ≡ statuses.BadGraph) ⊎ EndsEarly status
-bad_graph files graph script fault left statuses.Done n h = absurd (graph_or_bad files graph h.0 fault h.2 n)
-bad_graph files graph script fault left statuses.SomeRefused n h = absurd (graph_or_bad files graph h.0 fault h.2 n)
-bad_graph files graph script fault left statuses.Usage n h = absurd h
-bad_graph files graph script fault left statuses.BadGraph n h = inl refl
-bad_graph files graph script fault left statuses.ReadFault n h = inr tt
-bad_graph files graph script fault left statuses.WriteFault n h = inr tt
-bad_graph files graph script fault left statuses.Memory n h = inr tt
-bad_graph files graph script fault left statuses.TooLong n h = absurd (bad_within files graph script fault n h.1)
 
 -- ---- lines that save
 

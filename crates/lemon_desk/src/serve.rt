@@ -4,9 +4,9 @@ ghost use Rattle.std.specs.Prelude.{◌≡◌, ◌≤◌, ◌↔◌, ◌⊎◌, 
 ghost use Rattle.edge_io.specs.Causes.{Rose, NeverFall};
 ghost use Rattle.edge_io.specs.Files.{Files, HoldsWithin, Took};
 ghost use Rattle.token_text.specs.Lines.{lines_of};
+ghost use Rattle.lgf_file.specs.Documents.{Spells};
 ghost use Rattle.lgf_file.specs.declared.documents.Doc.{Doc as Document};
-ghost use Rattle.lgf_file.specs.declared.faults.LgfFault.{LgfFault as Fault};
-ghost use Rattle.plain_machine.specs.Outcome.{Counts, Outcome, EndsRun, EndsUsage, IsRun, AskNothing, IsFileName, ReadRose, contents, HasGraph, HasBadGraph, HasTooLong, LacksNeeded, IsAnswered, EndsEarly, SavesTo};
+ghost use Rattle.plain_machine.specs.Outcome.{Counts, Outcome, EndsRun, EndsUsage, IsRun, AskNothing, IsFileName, ReadRose, contents, HasGraph, HasTooLong, LacksNeeded, IsAnswered, EndsEarly, SavesTo};
 ghost use Rattle.lemon_desk.specs.Refused.{RefusesGraph};
 
 use crate::graph_faults::graph_fault_bytes;
@@ -64,9 +64,9 @@ pub fn serve<S: Shelf, K: Sink>(
         → IsRun (contents words.now) graph script → HasTooLong files graph script
         → (result ≡ Status.TooLong) ⊎ EndsEarly result }
     // Where the graph file spells no document, the run says so, if it doesn't end early.
-    ensures bad_graph { (files : Files) (graph script : List ℕ) (fault : Fault) → S.files shelf.old ≡ Some files
-        → IsRun (contents words.now) graph script → HasBadGraph files graph fault
-        → (result ≡ Status.BadGraph) ⊎ EndsEarly result }
+    ensures bad_graph { (files : Files) (graph script bytes : List ℕ) → S.files shelf.old ≡ Some files
+        → IsRun (contents words.now) graph script → HoldsWithin files graph GRAPH_LIMIT bytes
+        → ((doc : Document) → Spells bytes doc → ⊥) → (result ≡ Status.BadGraph) ⊎ EndsEarly result }
     // Where both files are as they should be and no count rose, all lines were answered. Of the counts of
     // stores those of the files count that a line saves to.
     ensures complete { (files : Files) (graph script text : List ℕ) (doc : Document)

@@ -78,9 +78,9 @@ returns-clause-too_long g c = λ files graph script told is long.
     too_long files graph script (left_of g c run.0 run.1) c.run_files.result long run.4
 
 pub returns-clause-bad_graph : goal.returns-clause-bad_graph
-returns-clause-bad_graph g c = λ files graph script fault told is bad.
+returns-clause-bad_graph g c = λ files graph script bytes told is held none.
     let run = ran g c files graph script told is in
-    bad_graph files graph script fault (left_of g c run.0 run.1) c.run_files.result bad run.4
+    bad_graph files graph script bytes held none (left_of g c run.0 run.1) c.run_files.result run.4
 
 pub returns-clause-complete : goal.returns-clause-complete
 returns-clause-complete g c = λ files graph script text doc told is has within first second third last.
