@@ -49,7 +49,8 @@ impl Model for World {
 
 impl World {
     /// The world of a valid document: its rows get ids from 0 in their order. Where the arcs have no column
-    /// `label`, the label of an arc is its id in decimal.
+    /// `label`, the label of an arc is its id in decimal. It has used a stamp for each row. It fails only where
+    /// memory runs out.
     pub fn load(alloc: Global, doc: Doc) -> Result<World, AllocError>
         requires { IsDoc doc }
         ensures loaded { IfOk result (λ world. world ≡ rules.load doc) }
@@ -90,8 +91,11 @@ impl World {
         }
     }
 
-    /// What the command answers, if it is one that is [`built`]. It needs a stamp, and uses one at most.
-    /// After a refusal, and where memory runs out, the world is as before.
+    /// What the command answers, which has to be one that is [`built`](crate::built). It needs a stamp, and uses
+    /// one at most.
+    ///
+    /// `Refused` tells the first fault that refuses the command: a name that isn't there, a label that is there
+    /// already, or a sort at its limit, in this order. After it, and where memory runs out, the world is as before.
     pub fn step(&mut self, alloc: Global, command: &Command) -> Result<Reply, StepFault>
         requires built { is_built command.now ≡ true }
         requires stamp { self.old.graph.stamps < MAX_STAMP }
@@ -125,8 +129,8 @@ impl World {
         }
     }
 
-    /// The document of the world: rows by rising id, the column `label` in front of the others, and the
-    /// attributes as read.
+    /// The document of the world, which is valid: rows by rising id, the column `label` in front of the others,
+    /// and the attributes as read. It fails only where memory runs out.
     pub fn doc(&self, alloc: Global) -> Result<Doc, AllocError>
         ensures doc { IfOk result (λ doc. doc ≡ doc_of self.now) }
         ensures valid { IfOk result IsDoc }

@@ -31,7 +31,7 @@ pub fn serve<S: Shelf, K: Sink>(
     shelf: &mut S,
     report: &mut K,
 ) -> Status
-    // What went out, the files and the status are an outcome of the words and the files.
+    // What went out, the files afterwards and the status are an outcome of the words and the files.
     ensures outcome { let before : Counts = record { writes = K.faults report.old; stores = S.store_faults shelf.old } in
         let now : Counts = record { writes = K.faults report.new; stores = S.store_faults shelf.new } in
         (files : Files) → S.files shelf.old ≡ Some files → (out : List ℕ) × (left : Files)
@@ -54,7 +54,7 @@ pub fn serve<S: Shelf, K: Sink>(
     ensures write { result ≡ Status.WriteFault → Rose (K.faults report.old) (K.faults report.new)
         ⊎ ((name : List ℕ) × Rose (S.store_faults shelf.old name) (S.store_faults shelf.new name)) }
 
-    // Where a needed file is missing: a read fault, and nothing went out.
+    // Where a needed file is missing: a read fault, or memory ran out. Nothing went out, and no file is stored.
     ensures lacking { (files : Files) (graph script : List ℕ) → S.files shelf.old ≡ Some files
         → IsRun (contents words.now) graph script → LacksNeeded files graph script
         → ((result ≡ Status.ReadFault) ⊎ (result ≡ Status.Memory))
