@@ -2,9 +2,11 @@
 #![tactic(auto)]
 
 mod items;
+mod laws;
 mod limits;
 mod lists;
 
 pub use items::{Arc, Fact, ItemSort, Node};
+pub use laws::limits_are;
 pub use limits::{Limit, MAX_ARCS, MAX_LAYERS, MAX_NODES, MAX_STAMP, VALUE_LIMIT};
 pub use lists::List;
