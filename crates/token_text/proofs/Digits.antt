@@ -40,7 +40,8 @@ int_text bytes value int = IsUtf8-from_ascii bytes (signed_ascii bytes int.numer
 
 -- digits have no sign in front
 no_sign : (digits : List ℕ) → IsNumeral 10 digits
-    → (without_leading_sign digits ≡ digits) × (signed_digits_value 10 digits ≡ pos (digits_value 10 digits))
+    → (without_leading_sign digits ≡ digits)
+    × (signed_digits_value 10 digits ≡ pos (digits_value 10 digits))
 no_sign [] numeral = absurd (omega (arith, numeral.0))
 no_sign (digit ∷ digits) numeral =
     let first = digit_at (digit ∷ digits) 0 numeral.1 numeral.0 in

@@ -3,22 +3,24 @@ use Rattle.std.proofs.Common.{◌≡◌, ℕ, ◌+◌, ◌*◌, ◌≤◌, Bool,
 use Rattle.std.specs.Prelude.{◌==◌, option_map}
 use Rattle.std.proofs.lemmas.Bool.{eq-eqb, ne_eqb, eqb-true, cond-true, cond-false}
 use Rattle.token_text.specs.Bytes.{is_itself, letter_byte, hex_value, octal_value}
-use Rattle.token_text.specs.Grammar.{digit_at, Digit, Escape, itself, letter, hex_1, hex_2, octal_1, octal_2, octal_3, Item, plain, escaped}
-use Rattle.token_text.specs.Scan.{ByteAndRest, or_then, hex, hex_pair, after_hex, octal, after_one, after_two, after_three, at_most_a_byte, letter_or_octal, escape, item}
+use Rattle.token_text.specs.Grammar.{digit_at, Digit, Escape, itself, letter, hex_1, hex_2, octal_1, octal_2, octal_3, QuotedByte, plain, escaped}
+use Rattle.token_text.specs.Scan.{ByteAndRest, or_then, hex, hex_pair, after_hex, octal, after_one, after_two, after_three, at_most_a_byte, letter_or_octal, escape, quoted_byte}
 
 none_then : {A B : Type 0} (found : Option A) (none : B) (some : A → B) → found ≡ None
     → or_then found none some ≡ none
 none_then None none some is = refl
 none_then (Some value) none some is = absurd (cc)
 
-some_then : {A B : Type 0} (found : Option A) (none : B) (some : A → B) (value : A) → found ≡ Some value
+some_then : {A B : Type 0} (found : Option A) (none : B) (some : A → B) (value : A)
+    → found ≡ Some value
     → or_then found none some ≡ some value
 some_then None none some value is = absurd (cc)
 some_then (Some other) none some value is = cc
 
 -- What the functions read is in the grammar.
 module _ (text : List ℕ) (byte : ℕ) (rest : List ℕ) where
-  hex_from : (more : List ℕ) → text ≡ 120 ∷ more → (found : ByteAndRest) → digit_at hex_value more ≡ found
+  hex_from : (more : List ℕ) → text ≡ 120 ∷ more → (found : ByteAndRest)
+      → digit_at hex_value more ≡ found
       → or_then found None after_hex ≡ Some (byte, rest) → Escape text byte rest
   hex_from more is None first given = absurd (cc)
   hex_from more is (Some high) first given = second (digit_at hex_value high.1) refl given
@@ -50,7 +52,8 @@ module _ (text : List ℕ) (byte : ℕ) (rest : List ℕ) where
       third middle next None none given =
           let same : ◌≡◌ {A = ℕ × List ℕ} (8 * high.0 + middle.0, middle.1) (byte, rest) = cc in
           octal_2 high.1 high.0 middle.0 first (next ∙ ap (λ pair. Some (middle.0, pair.1)) same)
-          (ap (λ pair. digit_at octal_value pair.1) (sym same) ∙ none) (sym (ap (λ pair. pair.0) same))
+          (ap (λ pair. digit_at octal_value pair.1) (sym same)
+          ∙ none) (sym (ap (λ pair. pair.0) same))
       third middle next (Some low) last given =
           let parts = small_enough (64 * high.0 + 8 * middle.0 + low.0) low.1 given in
           octal_3 high.1 middle.1 high.0 middle.0 low.0 first next
@@ -72,7 +75,8 @@ escape_from (name ∷ more) byte rest given = first (is_itself name) refl given
     last : (found : Option ℕ) → letter_byte name ≡ found
         → or_then found (octal (name ∷ more)) (λ value. Some (value, more)) ≡ Some (byte, rest)
         → Escape (name ∷ more) byte rest
-    last None none given = octal_from (name ∷ more) byte rest (digit_at octal_value (name ∷ more)) refl given
+    last None none given =
+        octal_from (name ∷ more) byte rest (digit_at octal_value (name ∷ more)) refl given
     last (Some value) is given =
         let same : ◌≡◌ {A = ℕ × List ℕ} (value, more) (byte, rest) = cc in
         letter name (ap (λ pair. name ∷ pair.1) same) (is ∙ ap (λ pair. Some pair.0) same)
@@ -95,18 +99,20 @@ escape_from (name ∷ more) byte rest given = first (is_itself name) refl given
     first false is given = second (name == 120) refl given
 
 differs : (byte other : ℕ) → (byte == other) ≡ false → byte ≡ other → ⊥
-differs byte other tested is = absurd (let both : true ≡ false = sym (eq-eqb byte other is) ∙ tested in cc)
+differs byte other tested is = absurd (cc (sym (eq-eqb byte other is) ∙ tested))
 
-pub item_from : (text : List ℕ) (byte : ℕ) (rest : List ℕ) → item text ≡ Some (byte, rest)
-    → Item text byte rest
-item_from [] byte rest given = absurd (cc)
-item_from (head ∷ more) byte rest given = first (head == 34) refl given
+pub quoted_byte_from : (text : List ℕ) (byte : ℕ) (rest : List ℕ)
+    → quoted_byte text ≡ Some (byte, rest)
+    → QuotedByte text byte rest
+quoted_byte_from [] byte rest given = absurd (cc)
+quoted_byte_from (head ∷ more) byte rest given = first (head == 34) refl given
   where
     second : (test : Bool) → (head == 92) ≡ test → (head ≡ 34 → ⊥)
         → cond test (escape more) (Some (head, more)) ≡ Some (byte, rest)
-        → Item (head ∷ more) byte rest
+        → QuotedByte (head ∷ more) byte rest
     second true is no_quote given =
-        escaped more (ap (λ other. other ∷ more) (eqb-true head 92 is)) (escape_from more byte rest given)
+        escaped more (ap (λ other. other ∷ more) (eqb-true head 92 is))
+        (escape_from more byte rest given)
     second false is no_quote given =
         let same : ◌≡◌ {A = ℕ × List ℕ} (head, more) (byte, rest) = cc in
         let heads : head ≡ byte = ap (λ pair. pair.0) same in
@@ -115,7 +121,7 @@ item_from (head ∷ more) byte rest given = first (head == 34) refl given
 
     first : (test : Bool) → (head == 34) ≡ test
         → cond test None (cond (head == 92) (escape more) (Some (head, more))) ≡ Some (byte, rest)
-        → Item (head ∷ more) byte rest
+        → QuotedByte (head ∷ more) byte rest
     first true is given = absurd (cc)
     first false is given = second (head == 92) refl (differs head 34 is) given
 
@@ -136,7 +142,8 @@ octal_no_letter : (digit value : ℕ) → octal_value digit ≡ Some value → l
 octal_no_letter digit value is = grind arith
 
 digit_head : (found : Option ℕ) (more rest : List ℕ) (value : ℕ)
-    → option_map {U = ℕ × List ℕ} (λ worth. (worth, more)) found ≡ Some (value, rest) → found ≡ Some value
+    → option_map {U = ℕ × List ℕ} (λ worth. (worth, more)) found ≡ Some (value, rest)
+    → found ≡ Some value
 digit_head None more rest value is = absurd (cc)
 digit_head (Some worth) more rest value is =
     let same : ◌≡◌ {A = ℕ × List ℕ} (worth, more) (value, rest) = cc in
@@ -185,7 +192,8 @@ escape_is text byte rest (hex_1 more is first none) =
 escape_is text byte rest (hex_2 more after high low is first next value) =
     ap escape is
     ∙ some_then (digit_at hex_value more) None after_hex (high, after) first
-    ∙ some_then (digit_at hex_value after) (Some (high, after)) (hex_pair (high, after)) (low, rest) next
+    ∙ some_then (digit_at hex_value after) (Some (high, after)) (hex_pair (high, after)) (low, rest)
+    next
     ∙ ap (λ number. Some (number, rest)) (sym value)
 escape_is text byte rest (octal_1 first none) =
     escape_octal text byte rest first
@@ -194,7 +202,8 @@ escape_is text byte rest (octal_1 first none) =
 escape_is text byte rest (octal_2 after high low first next none value) =
     escape_octal text high after first
     ∙ some_then (digit_at octal_value text) None after_one (high, after) first
-    ∙ some_then (digit_at octal_value after) (Some (high, after)) (after_two (high, after)) (low, rest) next
+    ∙ some_then (digit_at octal_value after) (Some (high, after)) (after_two (high, after))
+    (low, rest) next
     ∙ none_then (digit_at octal_value rest) (Some (8 * high + low, rest))
     (after_three (high, after) (low, rest)) none
     ∙ ap (λ number. Some (number, rest)) (sym value)
@@ -207,11 +216,12 @@ escape_is text byte rest (octal_3 after last high middle low first next third va
     (after_three (high, after) (middle, last)) (low, rest) third
     ∙ fits (64 * high + 8 * middle + low) byte rest value few
 
-pub item_is : (text : List ℕ) (byte : ℕ) (rest : List ℕ) → Item text byte rest
-    → item text ≡ Some (byte, rest)
-item_is text byte rest (plain is no_quote no_slash) =
-    ap item is
+pub quoted_byte_is : (text : List ℕ) (byte : ℕ) (rest : List ℕ) → QuotedByte text byte rest
+    → quoted_byte text ≡ Some (byte, rest)
+quoted_byte_is text byte rest (plain is no_quote no_slash) =
+    ap quoted_byte is
     ∙ cond-false (byte == 34) None (cond (byte == 92) (escape rest) (Some (byte, rest)))
     (ne_eqb byte 34 no_quote)
     ∙ cond-false (byte == 92) (escape rest) (Some (byte, rest)) (ne_eqb byte 92 no_slash)
-item_is text byte rest (escaped more is own) = ap item is ∙ escape_is more byte rest own
+quoted_byte_is text byte rest (escaped more is own) =
+    ap quoted_byte is ∙ escape_is more byte rest own

@@ -46,7 +46,8 @@ lines_first (b ∷ line) after h =
     onto b (line ++ 10 ∷ after) (line ∷ lines_of after) h.0 (lines_first line after h.1)
 
 -- the last line, without one
-pub lines_last : (bytes : List ℕ) → 0 < length bytes → LacksByte 10 bytes → lines_of bytes ≡ bytes ∷ []
+pub lines_last : (bytes : List ℕ) → 0 < length bytes → LacksByte 10 bytes
+    → lines_of bytes ≡ bytes ∷ []
 lines_last [] some h = absurd (omega arith)
 lines_last (b ∷ []) some h = onto b [] [] h.0 refl
 lines_last (b ∷ c ∷ bytes) some h =

@@ -3,6 +3,7 @@ pub mod Places
 pub mod Outcomes
 pub mod WrittenLaws
 pub mod Determined
+pub mod SomeReading
 pub mod TokensAlone
 pub mod TokensSoFar
 pub mod Digits

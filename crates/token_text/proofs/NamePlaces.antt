@@ -10,13 +10,14 @@ use Rattle.std.specs.Str.{bytes_eq}
 use Rattle.token_text.specs.Names.{IsNoneOf}
 
 -- what a test against each label says
-pub none_from_test : (label : List ℕ) (labels : List (List ℕ)) → list_any (bytes_eq label) labels ≡ false
+pub none_from_test : (label : List ℕ) (labels : List (List ℕ))
+    → list_any (bytes_eq label) labels ≡ false
     → IsNoneOf label labels
 none_from_test label [] e = tt
 none_from_test label (other ∷ others) e =
     let parts = or_parts (bytes_eq label other) (list_any (bytes_eq label) others) e in
     let apart : label ≡ other → ⊥ =
-    λ h. absurd (let x : true ≡ false = sym ((bytes_eq-Decides label other).1 h) ∙ parts.0 in cc) in
+    λ h. absurd (cc (sym ((bytes_eq-Decides label other).1 h) ∙ parts.0)) in
     (apart, none_from_test label others parts.1)
 
 pub test_from_none : (label : List ℕ) (labels : List (List ℕ)) → IsNoneOf label labels
@@ -41,7 +42,8 @@ place_found label labels (Some place) e some =
 
 -- a label that is put last
 pub label_put : (label : List ℕ) (labels : List (List ℕ)) → IsNoneOf label labels
-    → (if list_any (bytes_eq label) labels then labels else labels ++ label ∷ []) ≡ labels ++ label ∷ []
+    → (if list_any (bytes_eq label) labels then labels else labels ++ label ∷ []) ≡ labels
+    ++ label ∷ []
 label_put label labels none =
     ap (λ (t : Bool). if t then labels else labels ++ label ∷ []) (test_from_none label labels none)
 
@@ -50,13 +52,14 @@ pub not_at : (label : List ℕ) (labels : List (List ℕ)) (place : ℕ) → pla
     → IsNoneOf label labels → label ≡ get_or labels place [] → ⊥
 not_at label [] place within none e = absurd (omega arith)
 not_at label (other ∷ others) zero within none e = none.0 e
-not_at label (other ∷ others) (suc place) within none e = not_at label others place (omega arith) none.1 e
+not_at label (other ∷ others) (suc place) within none e =
+    not_at label others place (omega arith) none.1 e
 
 -- and isn't found there
 pub found_not_none : (label : List ℕ) (labels : List (List ℕ)) (found : Option ℕ)
     → MatchOption found (IsNoneOf label labels) (λ place. slice_get labels place ≡ Some label)
     → is_some found ≡ true → IsNoneOf label labels → ⊥
-found_not_none label labels None h some none = absurd (let x : false ≡ true = some in cc)
+found_not_none label labels None h some none = absurd (cc some)
 found_not_none label labels (Some place) h some none =
     not_at label labels place (slice_get_within labels place label h) none
     (sym (get_or_from_slice_get labels place label [] h))

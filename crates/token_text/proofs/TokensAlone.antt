@@ -16,31 +16,31 @@ module _ (line : List ℕ) (at : ℕ) where
   stop_no_token : (fault : Option ℕ) (start end : ℕ) (bytes : List ℕ) → Stops line at fault
       → Reads line at start end bytes → ⊥
   stop_no_token None start end bytes none reads =
-      let same : nothing ≡ token start end bytes = one_reading line at _ _ none reads in cc
+      cc (one_reading line at nothing (token start end bytes) none reads)
   stop_no_token (Some place) start end bytes (inl bad) reads =
-      let same : bad_backslash place ≡ token start end bytes = one_reading line at _ _ bad reads in cc
+      cc (one_reading line at (bad_backslash place) (token start end bytes) bad reads)
   stop_no_token (Some place) start end bytes (inr unclosed) reads =
-      let same : open_quote place ≡ token start end bytes = one_reading line at _ _ unclosed reads in cc
+      cc (one_reading line at (open_quote place) (token start end bytes) unclosed reads)
 
   -- The tokens stop with one fault alone.
   pub stop_alone : (one other : Option ℕ) → Stops line at one → Stops line at other → one ≡ other
   stop_alone None None none none' = refl
   stop_alone None (Some place) none (inl bad) =
-      let same : nothing ≡ bad_backslash place = one_reading line at _ _ none bad in cc
+      cc (one_reading line at nothing (bad_backslash place) none bad)
   stop_alone None (Some place) none (inr unclosed) =
-      let same : nothing ≡ open_quote place = one_reading line at _ _ none unclosed in cc
+      cc (one_reading line at nothing (open_quote place) none unclosed)
   stop_alone (Some place) None (inl bad) none =
-      let same : bad_backslash place ≡ nothing = one_reading line at _ _ bad none in cc
+      cc (one_reading line at (bad_backslash place) nothing bad none)
   stop_alone (Some place) None (inr unclosed) none =
-      let same : open_quote place ≡ nothing = one_reading line at _ _ unclosed none in cc
+      cc (one_reading line at (open_quote place) nothing unclosed none)
   stop_alone (Some place) (Some other) (inl bad) (inl bad') =
-      let same : bad_backslash place ≡ bad_backslash other = one_reading line at _ _ bad bad' in cc
+      cc (one_reading line at (bad_backslash place) (bad_backslash other) bad bad')
   stop_alone (Some place) (Some other) (inl bad) (inr unclosed) =
-      let same : bad_backslash place ≡ open_quote other = one_reading line at _ _ bad unclosed in cc
+      cc (one_reading line at (bad_backslash place) (open_quote other) bad unclosed)
   stop_alone (Some place) (Some other) (inr unclosed) (inl bad) =
-      let same : open_quote place ≡ bad_backslash other = one_reading line at _ _ unclosed bad in cc
+      cc (one_reading line at (open_quote place) (bad_backslash other) unclosed bad)
   stop_alone (Some place) (Some other) (inr unclosed) (inr unclosed') =
-      let same : open_quote place ≡ open_quote other = one_reading line at _ _ unclosed unclosed' in cc
+      cc (one_reading line at (open_quote place) (open_quote other) unclosed unclosed')
 
   -- One token alone stands next.
   token_alone : (one other : Token) → Reads line at one.start one.end one.bytes
@@ -54,7 +54,8 @@ module _ (line : List ℕ) (at : ℕ) where
       (λ i. record { start = starts i; end = ends i; bytes = texts i })
 
 -- From a place of a line on stand one list of tokens and one fault alone.
-pub tokens_alone : (line : List ℕ) (at : ℕ) (ones others : List Token) (fault other_fault : Option ℕ)
+pub tokens_alone : (line : List ℕ) (at : ℕ) (ones others : List Token)
+    (fault other_fault : Option ℕ)
     → HasTokens line at ones fault → HasTokens line at others other_fault
     → Same ones others fault other_fault
 tokens_alone line at [] [] fault other_fault stops stops' =

@@ -20,13 +20,15 @@ pub record Reading (line : List ℕ) (at : ℕ) (tokens : List Token) : Type 0 w
   pub before : Before line at tokens
 
 -- A token begins in the line.
-pub token_starts : (line : List ℕ) (at start end : ℕ) (bytes : List ℕ) → Reads line at start end bytes
+pub token_starts : (line : List ℕ) (at start end : ℕ) (bytes : List ℕ)
+    → Reads line at start end bytes
     → start < length line
 token_starts line at start end bytes reads =
     omega (arith, word_shorter _ _ _ reads.word, reads.start_is)
 
 -- What is known of the tokens so far is known of them and one more.
-pub before_more : (line : List ℕ) (at : ℕ) (tokens : List Token) (token : Token) → Before line at tokens
+pub before_more : (line : List ℕ) (at : ℕ) (tokens : List Token) (token : Token)
+    → Before line at tokens
     → Reads line at token.start token.end token.bytes → Before line token.end (tokens ++ token ∷ [])
 before_more line at tokens token before reads = λ rest fault has.
     rw append_assoc (before (token ∷ rest) fault (reads, has))

@@ -5,18 +5,21 @@ use Rattle.std.specs.List.{list_all, flat_map}
 use Rattle.std.proofs.lemmas.Bool.{and_parts}
 use Rattle.std.proofs.lemmas.Bool.Decides.{eqb_tells, leb_tells}
 use Rattle.token_text.specs.Bytes.{is_blank, is_itself, letter_byte, octal_value}
-use Rattle.token_text.specs.Grammar.{Digit, Escape, itself, letter, octal_3, Item, plain, escaped, Items, IsPlain, IsStop, is_word_bytes, Reads, Word, plain_word, quoted_word, after_blanks, Next}
+use Rattle.token_text.specs.Grammar.{Digit, Escape, itself, letter, octal_3, QuotedByte, plain, escaped, QuotedBytes, IsPlain, IsStop, is_word_bytes, Reads, Word, plain_word, quoted_word, after_blanks, Next}
 use Rattle.token_text.specs.Written.{is_bare_byte, starts_bare, is_bare, octal_digits, spelled, quoted, written}
 use Rattle.token_text.specs.Lines.{IsInside}
 use Rattle.token_text.proofs.Places.{drop_front, ends_behind, ends_drop}
 
 -- The four ways in which a byte is written in quotes.
 data Spelling (byte : ℕ) : Type 0 where
-  by_itself : IsTrue (is_itself byte) → spelled byte ≡ 92 ∷ byte ∷ [] → (byte ≡ 10 → ⊥) → Spelling byte
-  by_letter : (name : ℕ) → letter_byte name ≡ Some byte → spelled byte ≡ 92 ∷ name ∷ [] → (name ≡ 10 → ⊥)
+  by_itself : IsTrue (is_itself byte) → spelled byte ≡ 92 ∷ byte ∷ [] → (byte ≡ 10 → ⊥)
+      → Spelling byte
+  by_letter : (name : ℕ) → letter_byte name ≡ Some byte → spelled byte ≡ 92 ∷ name ∷ []
+      → (name ≡ 10 → ⊥)
       → Spelling byte
   by_octal : byte ≤ 127 → spelled byte ≡ 92 ∷ octal_digits byte → Spelling byte
-  as_it_is : (byte ≡ 34 → ⊥) → (byte ≡ 92 → ⊥) → spelled byte ≡ byte ∷ [] → (byte ≡ 10 → ⊥) → Spelling byte
+  as_it_is : (byte ≡ 34 → ⊥) → (byte ≡ 92 → ⊥) → spelled byte ≡ byte ∷ [] → (byte ≡ 10 → ⊥)
+      → Spelling byte
 
 spelled_as_is : (byte : ℕ) → 32 ≤ byte → (byte ≡ 127 → ⊥) → (byte ≡ 34 → ⊥) → (byte ≡ 92 → ⊥)
     → spelled byte ≡ byte ∷ []
@@ -32,11 +35,14 @@ module _ (byte : ℕ) where
       → Spelling byte
   by_equal number same other =
       let on : (eqb byte number ≡ true) × (byte ≡ number) → Spelling byte = λ tells. same tells.1 in
-      let off : (eqb byte number ≡ false) × (byte ≢ number) → Spelling byte = λ tells. other tells.1 in
+      let off : (eqb byte number ≡ false) × (byte ≢ number) → Spelling byte =
+      λ tells. other tells.1 in
       ⊎_elim on off (eqb_tells byte number)
 
-  by_most : (number : ℕ) → (byte ≤ number → Spelling byte) → (number < byte → Spelling byte) → Spelling byte
-  by_most number low high = ⊎_elim (λ tells. low tells.1) (λ tells. high tells.1) (leb_tells byte number)
+  by_most : (number : ℕ) → (byte ≤ number → Spelling byte) → (number < byte → Spelling byte)
+      → Spelling byte
+  by_most number low high =
+      ⊎_elim (λ tells. low tells.1) (λ tells. high tells.1) (leb_tells byte number)
 
   at_letter : (value name : ℕ) → letter_byte name ≡ Some value → spelled value ≡ 92 ∷ name ∷ []
       → (name ≡ 10 → ⊥) → byte ≡ value → Spelling byte
@@ -51,7 +57,8 @@ module _ (byte : ℕ) where
 
   above_letters : 13 < byte → Spelling byte
   above_letters above =
-      by_most 31 (λ low. by_octal (omega arith) (spelled_octal byte (inl (inr (above, low))))) (λ high.
+      by_most 31 (λ low. by_octal (omega arith) (spelled_octal byte (inl (inr (above, low)))))
+      (λ high.
       by_equal 127 (λ same. by_octal (omega arith) (spelled_octal byte (inr same))) (λ no_delete.
       by_equal 34 at_quote (λ no_quote.
       by_equal 92 at_slash (λ no_slash.
@@ -73,14 +80,17 @@ module _ (byte : ℕ) where
 octal_value_of : (digit value : ℕ) → digit ≡ 48 + value → value ≤ 7 → octal_value digit ≡ Some value
 octal_value_of digit value is low = grind arith
 
-octal_digit : (value : ℕ) (rest : List ℕ) → value ≤ 7 → Digit octal_value ((48 + value) ∷ rest) value rest
+octal_digit : (value : ℕ) (rest : List ℕ) → value ≤ 7
+    → Digit octal_value ((48 + value) ∷ rest) value rest
 octal_digit value rest low =
-    ap (option_map {U = ℕ × List ℕ} (λ worth. (worth, rest))) (octal_value_of (48 + value) value refl low)
+    ap (option_map {U = ℕ × List ℕ} (λ worth. (worth, rest)))
+    (octal_value_of (48 + value) value refl low)
 
 sum_of : (byte : ℕ) → byte ≤ 127 → byte ≡ 64 * (byte / 64) + 8 * (byte / 8 % 8) + byte % 8
 sum_of byte low = omega arith
 
-octal_escape : (byte : ℕ) (rest : List ℕ) → byte ≤ 127 → Escape (octal_digits byte ++ rest) byte rest
+octal_escape : (byte : ℕ) (rest : List ℕ) → byte ≤ 127
+    → Escape (octal_digits byte ++ rest) byte rest
 octal_escape byte rest low =
     let last = (48 + byte % 8) ∷ rest in
     let after = (48 + byte / 8 % 8) ∷ last in
@@ -90,25 +100,29 @@ octal_escape byte rest low =
     (octal_digit (byte % 8) rest (omega arith))
     (sum_of byte low) (omega arith)
 
-spelled_item : (byte : ℕ) (rest : List ℕ) → Spelling byte → Item (spelled byte ++ rest) byte rest
-spelled_item byte rest (by_itself own is no_end) =
-    subst (λ text. Item (text ++ rest) byte rest) (sym is) (escaped (byte ∷ rest) refl (itself refl own))
-spelled_item byte rest (by_letter name own is no_end) =
-    subst (λ text. Item (text ++ rest) byte rest) (sym is) (escaped (name ∷ rest) refl (letter name refl own))
-spelled_item byte rest (by_octal low is) =
-    subst (λ text. Item (text ++ rest) byte rest) (sym is)
+spelled_byte : (byte : ℕ) (rest : List ℕ) → Spelling byte
+    → QuotedByte (spelled byte ++ rest) byte rest
+spelled_byte byte rest (by_itself own is no_end) =
+    subst (λ text. QuotedByte (text ++ rest) byte rest) (sym is)
+    (escaped (byte ∷ rest) refl (itself refl own))
+spelled_byte byte rest (by_letter name own is no_end) =
+    subst (λ text. QuotedByte (text ++ rest) byte rest) (sym is)
+    (escaped (name ∷ rest) refl (letter name refl own))
+spelled_byte byte rest (by_octal low is) =
+    subst (λ text. QuotedByte (text ++ rest) byte rest) (sym is)
     (escaped (octal_digits byte ++ rest) refl (octal_escape byte rest low))
-spelled_item byte rest (as_it_is no_quote no_slash is no_end) =
-    subst (λ text. Item (text ++ rest) byte rest) (sym is) (plain refl no_quote no_slash)
+spelled_byte byte rest (as_it_is no_quote no_slash is no_end) =
+    subst (λ text. QuotedByte (text ++ rest) byte rest) (sym is) (plain refl no_quote no_slash)
 
-spelled_items : (bytes rest : List ℕ) → Items ((flat_map spelled bytes ++ 34 ∷ []) ++ rest) bytes (34 ∷ rest)
-spelled_items [] rest = refl
-spelled_items (byte ∷ bytes) rest =
+spelled_quoted : (bytes rest : List ℕ)
+    → QuotedBytes ((flat_map spelled bytes ++ 34 ∷ []) ++ rest) bytes (34 ∷ rest)
+spelled_quoted [] rest = refl
+spelled_quoted (byte ∷ bytes) rest =
     let more = (flat_map spelled bytes ++ 34 ∷ []) ++ rest in
     let text : (flat_map spelled (byte ∷ bytes) ++ 34 ∷ []) ++ rest ≡ spelled byte ++ more =
     simp append_assoc in
-    let first = spelled_item byte more (spelling_of byte) in
-    (more, subst (λ own. Item own byte more) (sym text) first, spelled_items bytes rest)
+    let first = spelled_byte byte more (spelling_of byte) in
+    (more, subst (λ own. QuotedByte own byte more) (sym text) first, spelled_quoted bytes rest)
 
 bare_visible : (byte : ℕ) → is_bare_byte byte ≡ true → is_blank byte ≡ false
 bare_visible byte bare = grind arith
@@ -117,26 +131,32 @@ bare_word : (bytes : List ℕ) → list_all is_bare_byte bytes ≡ true → is_w
 bare_word [] bare = refl
 bare_word (byte ∷ bytes) bare =
     let parts = and_parts (is_bare_byte byte) (list_all is_bare_byte bytes) bare in
-    ap (λ blank. not blank && is_word_bytes bytes) (bare_visible byte parts.0) ∙ bare_word bytes parts.1
+    ap (λ blank. not blank && is_word_bytes bytes) (bare_visible byte parts.0)
+    ∙ bare_word bytes parts.1
 
 -- Where they need no quotes, the bytes begin with no blank.
-bare_starts : (bytes rest : List ℕ) → is_bare bytes ≡ true → after_blanks (bytes ++ rest) ≡ bytes ++ rest
+bare_starts : (bytes rest : List ℕ) → is_bare bytes ≡ true
+    → after_blanks (bytes ++ rest) ≡ bytes ++ rest
 bare_starts [] rest bare = absurd (cc)
 bare_starts (byte ∷ bytes) rest bare =
-    let all = (and_parts (starts_bare (byte ∷ bytes)) (list_all is_bare_byte (byte ∷ bytes)) bare).1 in
-    let first = bare_visible byte (and_parts (is_bare_byte byte) (list_all is_bare_byte bytes) all).0 in
+    let all =
+    (and_parts (starts_bare (byte ∷ bytes)) (list_all is_bare_byte (byte ∷ bytes)) bare).1 in
+    let first =
+    bare_visible byte (and_parts (is_bare_byte byte) (list_all is_bare_byte bytes) all).0 in
     ap (λ blank. cond blank (after_blanks (bytes ++ rest)) (byte ∷ bytes ++ rest)) first
 
 bare_plain : (bytes : List ℕ) → is_bare bytes ≡ true → IsPlain bytes
 bare_plain [] bare = absurd (cc)
 bare_plain (byte ∷ bytes) bare =
-    let all = (and_parts (starts_bare (byte ∷ bytes)) (list_all is_bare_byte (byte ∷ bytes)) bare).1 in
+    let all =
+    (and_parts (starts_bare (byte ∷ bytes)) (list_all is_bare_byte (byte ∷ bytes)) bare).1 in
     let first = (and_parts (is_bare_byte byte) (list_all is_bare_byte bytes) all).0 in (
-      (λ quote. absurd (let both : true ≡ false = sym first ∙ ap is_bare_byte quote in cc)),
+      (λ quote. absurd (cc (sym first ∙ ap is_bare_byte quote))),
       bare_word (byte ∷ bytes) all,
     )
 
-bare_reads : (bytes rest : List ℕ) → is_bare bytes ≡ true → IsStop rest → Next (bytes ++ rest) bytes rest
+bare_reads : (bytes rest : List ℕ) → is_bare bytes ≡ true → IsStop rest
+    → Next (bytes ++ rest) bytes rest
 bare_reads bytes rest bare stop =
     let word : Word (bytes ++ rest) bytes rest = plain_word refl (bare_plain bytes bare) stop in
     subst (λ text. Word text bytes rest) (sym (bare_starts bytes rest bare)) word
@@ -148,13 +168,15 @@ written_reads bytes rest stop = by_test (is_bare bytes) refl
         → Next (cond test bytes (quoted bytes) ++ rest) bytes rest
     by_test true bare = bare_reads bytes rest bare stop
     by_test false bare =
-        quoted_word ((flat_map spelled bytes ++ 34 ∷ []) ++ rest) refl (spelled_items bytes rest)
+        quoted_word ((flat_map spelled bytes ++ 34 ∷ []) ++ rest) refl (spelled_quoted bytes rest)
 
-written_starts : (bytes rest : List ℕ) → after_blanks (written bytes ++ rest) ≡ written bytes ++ rest
+written_starts : (bytes rest : List ℕ)
+    → after_blanks (written bytes ++ rest) ≡ written bytes ++ rest
 written_starts bytes rest = by_test (is_bare bytes) refl
   where
     by_test : (test : Bool) → is_bare bytes ≡ test
-        → after_blanks (cond test bytes (quoted bytes) ++ rest) ≡ cond test bytes (quoted bytes) ++ rest
+        → after_blanks (cond test bytes (quoted bytes) ++ rest) ≡ cond test bytes (quoted bytes)
+        ++ rest
     by_test true bare = bare_starts bytes rest bare
     by_test false bare = refl
 
@@ -183,12 +205,18 @@ inside_two : (name : ℕ) → (name ≡ 10 → ⊥) → IsInside (92 ∷ name �
 inside_two name no_end = ((λ end. omega arith), (no_end, tt))
 
 inside_octal : (byte : ℕ) → IsInside (92 ∷ octal_digits byte)
-inside_octal byte =
-    ((λ end. omega arith), ((λ end. omega arith), ((λ end. omega arith), ((λ end. omega arith), tt))))
+inside_octal byte = (
+  (λ end. omega arith),
+  (
+    (λ end. omega arith),
+    ((λ end. omega arith), ((λ end. omega arith), tt)),
+  ),
+)
 
 spelled_inside : (byte : ℕ) → Spelling byte → IsInside (spelled byte)
 spelled_inside byte (by_itself own is no_end) = subst IsInside (sym is) (inside_two byte no_end)
-spelled_inside byte (by_letter name own is no_end) = subst IsInside (sym is) (inside_two name no_end)
+spelled_inside byte (by_letter name own is no_end) =
+    subst IsInside (sym is) (inside_two name no_end)
 spelled_inside byte (by_octal low is) = subst IsInside (sym is) (inside_octal byte)
 spelled_inside byte (as_it_is no_quote no_slash is no_end) = subst IsInside (sym is) (no_end, tt)
 
@@ -204,7 +232,7 @@ all_inside (byte ∷ bytes) =
     (spelled_inside byte (spelling_of byte)) (all_inside bytes)
 
 bare_no_end : (byte : ℕ) → is_bare_byte byte ≡ true → byte ≡ 10 → ⊥
-bare_no_end byte bare end = absurd (let both : true ≡ false = sym bare ∙ ap is_bare_byte end in cc)
+bare_no_end byte bare end = absurd (cc (sym bare ∙ ap is_bare_byte end))
 
 bare_inside : (bytes : List ℕ) → list_all is_bare_byte bytes ≡ true → IsInside bytes
 bare_inside [] bare = tt
@@ -216,8 +244,10 @@ pub written_inside : (bytes : List ℕ) → IsInside (written bytes)
 written_inside bytes = by_test (is_bare bytes) refl
   where
     by_test : (test : Bool) → is_bare bytes ≡ test → IsInside (cond test bytes (quoted bytes))
-    by_test true bare = bare_inside bytes (and_parts (starts_bare bytes) (list_all is_bare_byte bytes) bare).1
+    by_test true bare =
+        bare_inside bytes (and_parts (starts_bare bytes) (list_all is_bare_byte bytes) bare).1
     by_test false bare =
         let closing =
-        inside_append (flat_map spelled bytes) (34 ∷ []) (all_inside bytes) ((λ end. omega arith), tt) in
+        inside_append (flat_map spelled bytes) (34 ∷ []) (all_inside bytes)
+        ((λ end. omega arith), tt) in
         ((λ end. omega arith), closing)

@@ -9,7 +9,8 @@ is_blank byte = (nat_le 9 byte && nat_le byte 13 && not (byte == 10)) || byte ==
 abbrev pub is_visible : ℕ → Bool
 is_visible byte = not (is_blank byte)
 
--- Behind a backslash a backslash, a double quote, a single quote and a question mark stand for themselves.
+-- Behind a backslash a backslash, a double quote, a single quote and a question mark stand for
+-- themselves.
 abbrev pub is_itself : ℕ → Bool
 is_itself byte = byte == 92 || byte == 34 || byte == 39 || byte == 63
 

@@ -16,8 +16,9 @@ Digit value text worth rest = digit_at value text ≡ Some (worth, rest)
 abbrev pub NoDigit : (ℕ → Option ℕ) → List ℕ → Type 0
 NoDigit value text = digit_at value text ≡ None
 
--- The text, which follows a backslash, is an escape that stands for the byte, and the rest. As many digits
--- belong to it as stand there: two hexadecimal ones at most behind an x, and three octal ones at most.
+-- The text, which follows a backslash, is an escape that stands for the byte, and the rest. As many
+-- digits belong to it as stand there: two hexadecimal ones at most behind an x, and three octal
+-- ones at most.
 pub data Escape (text : List ℕ) (byte : ℕ) (rest : List ℕ) : Type 0 where
   itself : text ≡ byte ∷ rest → IsTrue (is_itself byte) → Escape text byte rest
   letter : (name : ℕ) → text ≡ name ∷ rest → letter_byte name ≡ Some byte → Escape text byte rest
@@ -30,7 +31,8 @@ pub data Escape (text : List ℕ) (byte : ℕ) (rest : List ℕ) : Type 0 where
       → Escape text byte rest
   octal_1 : Digit octal_value text byte rest → NoDigit octal_value rest → Escape text byte rest
   octal_2 : (after : List ℕ) (high low : ℕ)
-      → Digit octal_value text high after → Digit octal_value after low rest → NoDigit octal_value rest
+      → Digit octal_value text high after → Digit octal_value after low rest
+      → NoDigit octal_value rest
       → byte ≡ 8 * high + low
       → Escape text byte rest
   octal_3 : (after last : List ℕ) (high middle low : ℕ)
@@ -39,15 +41,17 @@ pub data Escape (text : List ℕ) (byte : ℕ) (rest : List ℕ) : Type 0 where
       → byte ≡ 64 * high + 8 * middle + low → byte ≤ 255
       → Escape text byte rest
 
--- The text, which stands in quotes, goes on with the byte, plain or as an escape, and then the rest.
-pub data Item (text : List ℕ) (byte : ℕ) (rest : List ℕ) : Type 0 where
-  plain : text ≡ byte ∷ rest → (byte ≡ 34 → ⊥) → (byte ≡ 92 → ⊥) → Item text byte rest
-  escaped : (more : List ℕ) → text ≡ 92 ∷ more → Escape more byte rest → Item text byte rest
+-- The text, which stands in quotes, goes on with the byte, plain or as an escape, and then the
+-- rest.
+pub data QuotedByte (text : List ℕ) (byte : ℕ) (rest : List ℕ) : Type 0 where
+  plain : text ≡ byte ∷ rest → (byte ≡ 34 → ⊥) → (byte ≡ 92 → ⊥) → QuotedByte text byte rest
+  escaped : (more : List ℕ) → text ≡ 92 ∷ more → Escape more byte rest → QuotedByte text byte rest
 
 -- The text, which stands in quotes, goes on with these bytes, and then the rest.
-abbrev pub Items : List ℕ → List ℕ → List ℕ → Type 0
-Items text [] rest = text ≡ rest
-Items text (byte ∷ bytes) rest = (more : List ℕ) × Item text byte more × Items more bytes rest
+abbrev pub QuotedBytes : List ℕ → List ℕ → List ℕ → Type 0
+QuotedBytes text [] rest = text ≡ rest
+QuotedBytes text (byte ∷ bytes) rest =
+    (more : List ℕ) × QuotedByte text byte more × QuotedBytes more bytes rest
 
 -- No byte is a blank.
 abbrev pub is_word_bytes : List ℕ → Bool
@@ -66,7 +70,8 @@ IsStop (byte ∷ bytes) = IsTrue (is_blank byte)
 -- The text is a token that stands for the bytes, and the rest.
 pub data Word (text bytes rest : List ℕ) : Type 0 where
   plain_word : text ≡ bytes ++ rest → IsPlain bytes → IsStop rest → Word text bytes rest
-  quoted_word : (more : List ℕ) → text ≡ 34 ∷ more → Items more bytes (34 ∷ rest) → Word text bytes rest
+  quoted_word : (more : List ℕ) → text ≡ 34 ∷ more → QuotedBytes more bytes (34 ∷ rest)
+      → Word text bytes rest
 
 -- What is left of a text from its first byte on that is no blank.
 abbrev pub after_blanks : List ℕ → List ℕ
@@ -77,7 +82,8 @@ after_blanks (byte ∷ bytes) = if is_blank byte then after_blanks bytes else by
 abbrev pub Next : List ℕ → List ℕ → List ℕ → Type 0
 Next text bytes rest = Word (after_blanks text) bytes rest
 
--- The next token from a place of the line on begins and ends at these places, and stands for the bytes.
+-- The next token from a place of the line on begins and ends at these places, and stands for the
+-- bytes.
 pub record Reads (line : List ℕ) (at start end : ℕ) (bytes : List ℕ) : Type 0 where
   pub word : Word (after_blanks (drop at line)) bytes (drop end line)
   pub start_is : start + length (after_blanks (drop at line)) ≡ length line
@@ -90,7 +96,7 @@ pub record BadBackslash (line : List ℕ) (at place : ℕ) : Type 0 where
   pub quoted : after_blanks (drop at line) ≡ 34 ∷ more
   pub bytes : List ℕ
   pub tail : List ℕ
-  pub items : Items more bytes (92 ∷ tail)
+  pub read : QuotedBytes more bytes (92 ∷ tail)
   pub bad : (byte : ℕ) (rest : List ℕ) → Escape tail byte rest → ⊥
   pub place_is : place + length (92 ∷ tail) ≡ length line
 
@@ -100,7 +106,7 @@ pub record NoClose (line : List ℕ) (at place : ℕ) : Type 0 where
   pub more : List ℕ
   pub quoted : after_blanks (drop at line) ≡ 34 ∷ more
   pub bytes : List ℕ
-  pub items : Items more bytes []
+  pub read : QuotedBytes more bytes []
   pub place_is : place + length (34 ∷ more) ≡ length line
 
 -- From the place on there are only blanks.

@@ -3,8 +3,8 @@ use Rattle.std.specs.Prelude.{ℕ, ◌⊎◌, List, [], ◌∷◌, Some, None, O
 use Rattle.token_text.specs.Grammar.{Reads, NoToken, BadBackslash, NoClose}
 use Rattle.token_text.specs.declared.tokens.Token.{Token}
 
--- From the place on there is nothing more, or a token that can't be read: its first bad backslash, or its
--- quote where that isn't closed, stands at this place.
+-- From the place on there is nothing more, or a token that can't be read: its first bad backslash,
+-- or its quote where that isn't closed, stands at this place.
 abbrev pub Stops : List ℕ → ℕ → Option ℕ → Type 0
 Stops line at None = NoToken line at
 Stops line at (Some place) = BadBackslash line at place ⊎ NoClose line at place

@@ -47,7 +47,8 @@ octal text = or_then (digit_at octal_value text) None after_one
 
 -- A letter that stands for a byte, or octal digits.
 abbrev pub letter_or_octal : ℕ → List ℕ → ByteAndRest
-letter_or_octal byte rest = or_then (letter_byte byte) (octal (byte ∷ rest)) (λ value. Some (value, rest))
+letter_or_octal byte rest =
+    or_then (letter_byte byte) (octal (byte ∷ rest)) (λ value. Some (value, rest))
 
 -- What stands behind a backslash.
 abbrev pub escape : List ℕ → ByteAndRest
@@ -58,9 +59,9 @@ escape (byte ∷ rest) =
     else letter_or_octal byte rest)
 
 -- The first byte of a text in quotes. None at a quote, at a bad backslash and at the end.
-abbrev pub item : List ℕ → ByteAndRest
-item [] = None
-item (byte ∷ rest) =
+abbrev pub quoted_byte : List ℕ → ByteAndRest
+quoted_byte [] = None
+quoted_byte (byte ∷ rest) =
     if byte == 34 then None
     else (if byte == 92 then escape rest
     else Some (byte, rest))

@@ -2,7 +2,8 @@
 use Rattle.std.specs.Prelude.{ℕ, ◌+◌, ◌/◌, ◌%◌, ◌==◌, ◌&&◌, ◌||◌, Bool, false, not, nat_le, if◌then◌else◌, List, [], ◌∷◌, ◌++◌}
 use Rattle.std.specs.List.{list_all, flat_map}
 
--- A byte that may stand in a token without quotes: above 32, and neither 127, a double quote nor a backslash.
+-- A byte that may stand in a token without quotes: above 32, and neither 127, a double quote nor a
+-- backslash.
 abbrev pub is_bare_byte : ℕ → Bool
 is_bare_byte byte = nat_le 33 byte && not (byte == 127) && not (byte == 34) && not (byte == 92)
 

@@ -53,14 +53,16 @@ fn octal_value(byte: u8) -> Option<u8>
 }
 
 fn hex_digit(text: &[u8]) -> Option<(u8, &[u8])>
-    ensures { option_map (λ read. (read.0, read.1.now)) result ≡ grammar.digit_at bytes.hex_value text.now }
+    ensures { option_map (λ read. (read.0, read.1.now)) result
+        ≡ grammar.digit_at bytes.hex_value text.now }
 {
     let (byte, rest) = text.split_first()?;
     Some((hex_value(*byte)?, rest))
 }
 
 fn octal_digit(text: &[u8]) -> Option<(u8, &[u8])>
-    ensures { option_map (λ read. (read.0, read.1.now)) result ≡ grammar.digit_at bytes.octal_value text.now }
+    ensures { option_map (λ read. (read.0, read.1.now)) result
+        ≡ grammar.digit_at bytes.octal_value text.now }
 {
     let (byte, rest) = text.split_first()?;
     Some((octal_value(*byte)?, rest))
@@ -110,10 +112,10 @@ fn escape(text: &[u8]) -> Option<(u8, &[u8])>
     }
 }
 
-// The first byte of a text in quotes, and what follows it. None at a quote, at a bad backslash and at the
-// end.
-pub fn item(text: &[u8]) -> Option<(u8, &[u8])>
-    ensures { option_map (λ read. (read.0, read.1.now)) result ≡ scan.item text.now }
+// The first byte of a text in quotes, and what follows it. None at a quote, at a bad backslash and
+// at the end.
+pub fn quoted_byte(text: &[u8]) -> Option<(u8, &[u8])>
+    ensures { option_map (λ read. (read.0, read.1.now)) result ≡ scan.quoted_byte text.now }
 {
     let (byte, rest) = text.split_first()?;
     match *byte {

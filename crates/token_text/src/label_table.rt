@@ -62,8 +62,8 @@ impl LabelTable {
         &self.labels[place]
     }
 
-    /// Puts the label last, unless it is there already: whether it was put. Where memory runs out the
-    /// table is as before.
+    /// Puts the label last, unless it is there already: whether it was put. Where memory runs out
+    /// the table is as before.
     pub fn insert(&mut self, label: Text) -> Result<bool, AllocError>
         ensures fresh { IfOk result (λ fresh. fresh ≡ not (is_among label self.old)) }
         ensures inserted { IfOk result (λ fresh.

@@ -1,4 +1,5 @@
-//! Texts as bytes, tables of labels, lines, and tokens: how they are read and written, with ints and bools.
+//! Texts as bytes, tables of labels, lines, and tokens: how they are read and written, with ints
+//! and bools.
 #![tactic(auto)]
 
 mod compared;
@@ -13,7 +14,10 @@ mod tokens;
 mod written;
 
 pub use label_table::LabelTable;
-pub use laws::{decimal_reads, one_reading, written_inside, written_reads, written_stands};
+pub use laws::{
+    decimal_reads, one_reading, some_reading, some_tokens, written_inside, written_reads,
+    written_stands,
+};
 pub use line_tokens::{LineTokens, read_tokens};
 pub use lines::{is_passed_over, next_line, split_once};
 pub use numbers::{read_bool, read_int};

@@ -6,7 +6,8 @@ ghost use Rattle.token_text.specs.LineTokens.{HasTokens};
 use crate::tokens::{Token, TokenFault, read_token};
 use std::alloc::{AllocError, Global};
 
-/// The tokens of a line up to its end or to one that can't be read, and the place where that one goes wrong.
+/// The tokens of a line up to its end or to one that can't be read, and the place where that one
+/// goes wrong.
 #[derive(Drop)]
 pub struct LineTokens {
     pub tokens: Vec<Token>,
@@ -16,7 +17,8 @@ pub struct LineTokens {
 /// The tokens of the line.
 pub fn read_tokens(alloc: Global, line: &[u8]) -> Result<LineTokens, AllocError>
     ensures tokens { IfOk result (λ read. HasTokens line.now 0 read.tokens.items read.fault) }
-    ensures starts { IfOk result (λ read. All (λ token. token.start < length line.now) read.tokens.items) }
+    ensures starts { IfOk result (λ read.
+        All (λ token. token.start < length line.now) read.tokens.items) }
     ensures place { IfOk result (λ read. IfSome read.fault (λ place. place < length line.now)) }
 {
     let mut tokens = Vec::new(alloc);

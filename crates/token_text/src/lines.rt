@@ -23,7 +23,8 @@ pub fn split_once(bytes: &[u8], byte: u8) -> Option<(&[u8], &[u8])>
 /// The first line without its end, which the last line may lack, and what follows. None exactly at
 /// the end of the bytes.
 pub fn next_line(bytes: &[u8]) -> Option<(&[u8], &[u8])>
-    ensures line { IfSome result (λ parts. lines_of bytes.now ≡ parts.0.now ∷ lines_of parts.1.now) }
+    ensures line { IfSome result (λ parts.
+        lines_of bytes.now ≡ parts.0.now ∷ lines_of parts.1.now) }
     ensures less { IfSome result (λ parts. length parts.1.now < length bytes.now) }
     ensures none { IfNone result (bytes.now ≡ []) }
 {

@@ -1,18 +1,18 @@
 //! Tokens: how the next one of a line is read.
 
 ghost use Rattle.std.specs.Prelude.{◌≡◌, ◌≤◌, ◌+◌, true, None, ◌++◌, length, IfOk, IfErr};
-ghost use Rattle.token_text.specs.Grammar.{Items, IsStop, after_blanks, is_word_bytes};
+ghost use Rattle.token_text.specs.Grammar.{QuotedBytes, IsStop, after_blanks, is_word_bytes};
 ghost use Rattle.token_text.specs.Bytes as bytes;
 ghost use Rattle.token_text.specs.Scan as scan;
 ghost use Rattle.token_text.specs.Laws.{Stands, Meets};
 ghost use Rattle.token_text.specs.Results.{Found, Faults, Tells};
 
-use crate::escapes::item;
+use crate::escapes::quoted_byte;
 use crate::texts::{Text, copy_text};
 use std::alloc::{AllocError, Global};
 
-/// A token of a line: the place of its first byte, the place after its last one, and the bytes that it
-/// stands for.
+/// A token of a line: the place of its first byte, the place after its last one, and the bytes that
+/// it stands for.
 #[derive(Debug, Drop)]
 pub struct Token {
     pub start: usize,
@@ -76,13 +76,13 @@ pub fn split_word(text: &[u8]) -> (&[u8], &[u8])
 }
 
 // The bytes in quotes, and what follows the last one that can be read.
-fn read_items(alloc: Global, text: &[u8]) -> Result<(Text, &[u8]), AllocError>
-    ensures items { IfOk result (λ read. Items text.now read.0 read.1.now) }
-    ensures stop { IfOk result (λ read. scan.item read.1.now ≡ None) }
+fn read_quoted(alloc: Global, text: &[u8]) -> Result<(Text, &[u8]), AllocError>
+    ensures quoted { IfOk result (λ read. QuotedBytes text.now read.0 read.1.now) }
+    ensures stop { IfOk result (λ read. scan.quoted_byte read.1.now ≡ None) }
 {
     let mut bytes = Vec::new(alloc);
     let mut rest = text;
-    while let Some((byte, after)) = item(rest) {
+    while let Some((byte, after)) = quoted_byte(rest) {
         bytes.push(byte)?;
         rest = after;
     }
@@ -91,10 +91,10 @@ fn read_items(alloc: Global, text: &[u8]) -> Result<(Text, &[u8]), AllocError>
 
 /// The next token from a place of the line on, or None where only blanks follow.
 ///
-/// A token that begins with a double quote runs to the next quote that is no part of an escape. Any other
-/// token runs up to the next blank or to the end, and its bytes stand for themselves. The answer is an error
-/// where a quoted token has a backslash that begins no escape (`BadEscape`), where it has none but is never
-/// closed (`OpenQuote`), and where memory runs out.
+/// A token that begins with a double quote runs to the next quote that is no part of an escape. Any
+/// other token runs up to the next blank or to the end, and its bytes stand for themselves. The
+/// answer is an error where a quoted token has a backslash that begins no escape (`BadEscape`),
+/// where it has none but is never closed (`OpenQuote`), and where memory runs out.
 pub fn read_token(alloc: Global, line: &[u8], at: usize) -> Result<Option<Token>, TokenFault>
     requires { at ≤ length line.now }
     ensures found { IfOk result (Found line.now at) }
@@ -114,7 +114,7 @@ pub fn read_token(alloc: Global, line: &[u8], at: usize) -> Result<Option<Token>
         let bytes = copy_text(alloc, word)?;
         return Ok(Some(Token { start, end, bytes }));
     }
-    let (bytes, rest) = read_items(alloc, inner)?;
+    let (bytes, rest) = read_quoted(alloc, inner)?;
     let Some((last, after)) = rest.split_first() else {
         return Err(TokenFault::OpenQuote(start));
     };

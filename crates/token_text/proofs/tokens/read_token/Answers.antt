@@ -1,7 +1,7 @@
 use Rattle.std.proofs.Common.{length, sym, ap, ◌∙◌, ◌-◌, ◌∷◌, subst, refl}
 use Rattle.token_text.specs.Grammar.{Reads}
 use Rattle.token_text.specs.Laws.{token, bad_backslash, open_quote}
-use Rattle.token_text.proofs.Places.{ends_on, ends_behind, ends_length, ends_tail, items_ends}
+use Rattle.token_text.proofs.Places.{ends_on, ends_behind, ends_length, ends_tail, quoted_ends}
 use Rattle.token_text.proofs.Determined.{one_reading}
 use Rattle.token_text.proofs.Outcomes.{text_ends, inside_ends, reads_plain, reads_quoted, stays_open, goes_bad}
 use Rattle.token_text.proofs.tokens.read_token.Goals as goal
@@ -23,7 +23,8 @@ returns-then-first-ne34-clause-found c =
     let word = c.split_word.ensures in
     let first = c.in-Some.ensures.cases.0 in
     subst (Reads line c.args.at start end) (sym c.in_ok-bytes.ensures)
-    (reads_plain _ c.args.at _ c.after_blanks-text.ensures _ _ _ _ _ _ first c.if-first-ne34.true word.split
+    (reads_plain _ c.args.at _ c.after_blanks-text.ensures _ _ _ _ _ _ first c.if-first-ne34.true
+    word.split
     word.visible word.stop refl refl)
 
 pub returns-then-first-ne34-clause-exact : goal.returns-then-first-ne34-clause-exact
@@ -34,21 +35,22 @@ pub overflow_sub-end-2 : goal.overflow_sub-end-2
 overflow_sub-end-2 c =
     let first = c.in-Some.ensures.cases.0 in
     let last = ends_tail _ _ _ c.in-Some-split_first.ensures.cases.0 in
-    let after = ends_on _ _ _ (items_ends _ _ _ c.in_ok-bytes-2.ensures.items) last in
+    let after = ends_on _ _ _ (quoted_ends _ _ _ c.in_ok-bytes-2.ensures.quoted) last in
     ends_length _ _ (inside_ends _ c.args.at _ c.after_blanks-text.ensures _ _ _ first after)
 
 pub overflow_sub-result : goal.overflow_sub-result
 overflow_sub-result c =
     let first = c.in-Some.ensures.cases.0 in
-    let rest = items_ends _ _ _ c.in_ok-bytes-2.ensures.items in
+    let rest = quoted_ends _ _ _ c.in_ok-bytes-2.ensures.quoted in
     ends_length _ _ (inside_ends _ c.args.at _ c.after_blanks-text.ensures _ _ _ first rest)
 
 pub returns-in_default-split_first-clause-faults : goal.returns-in_default-split_first-clause-faults
 returns-in_default-split_first-clause-faults c =
-    let quoted = c.in-Some.ensures.cases.0 ∙ ap (λ byte. byte ∷ c.in-Some.inner.now) c.if-first-ne34.false in
-    let items = c.in_ok-bytes-2.ensures.items in
+    let quoted = c.in-Some.ensures.cases.0 ∙ ap (λ byte. byte ∷ c.in-Some.inner.now)
+    c.if-first-ne34.false in
+    let inside = c.in_ok-bytes-2.ensures.quoted in
     let none = c.in_default-split_first.ensures.cases in
-    stays_open _ c.args.at _ c.after_blanks-text.ensures _ _ _ _ quoted items none refl
+    stays_open _ c.args.at _ c.after_blanks-text.ensures _ _ _ _ quoted inside none refl
 
 pub returns-in_default-split_first-clause-exact : goal.returns-in_default-split_first-clause-exact
 returns-in_default-split_first-clause-exact c = λ stands meets.
@@ -56,10 +58,12 @@ returns-in_default-split_first-clause-exact c = λ stands meets.
 
 pub returns-then-last-ne34-clause-faults : goal.returns-then-last-ne34-clause-faults
 returns-then-last-ne34-clause-faults c =
-    let quoted = c.in-Some.ensures.cases.0 ∙ ap (λ byte. byte ∷ c.in-Some.inner.now) c.if-first-ne34.false in
+    let quoted = c.in-Some.ensures.cases.0 ∙ ap (λ byte. byte ∷ c.in-Some.inner.now)
+    c.if-first-ne34.false in
     let read = c.in_ok-bytes-2.ensures in
     let first = c.in-Some-split_first.ensures.cases.0 in
-    goes_bad _ c.args.at _ c.after_blanks-text.ensures _ _ _ _ _ _ quoted read.items read.stop first
+    goes_bad _ c.args.at _ c.after_blanks-text.ensures _ _ _ _ _ _ quoted read.quoted read.stop
+    first
     c.if-last-ne34.true refl
 
 pub returns-then-last-ne34-clause-exact : goal.returns-then-last-ne34-clause-exact
@@ -68,11 +72,14 @@ returns-then-last-ne34-clause-exact c = λ stands meets.
 
 pub returns-clause-found : goal.returns-clause-found
 returns-clause-found c =
-    let quoted = c.in-Some.ensures.cases.0 ∙ ap (λ byte. byte ∷ c.in-Some.inner.now) c.if-first-ne34.false in
+    let quoted = c.in-Some.ensures.cases.0 ∙ ap (λ byte. byte ∷ c.in-Some.inner.now)
+    c.if-first-ne34.false in
     let last = ap (λ byte. byte ∷ c.in-Some-split_first.after.now) c.if-last-ne34.false in
     let closing = c.in-Some-split_first.ensures.cases.0 ∙ last in
-    let items = c.in_ok-bytes-2.ensures.items in
-    reads_quoted _ c.args.at _ c.after_blanks-text.ensures _ _ _ _ _ _ quoted items closing refl refl
+    let inside = c.in_ok-bytes-2.ensures.quoted in
+    reads_quoted _ c.args.at _ c.after_blanks-text.ensures _ _ _ _ _ _ quoted inside closing refl
+    refl
 
 pub returns-clause-exact : goal.returns-clause-exact
-returns-clause-exact c = λ stands meets. one_reading _ _ stands (token _ _ _) meets (returns-clause-found c)
+returns-clause-exact c = λ stands meets. one_reading _ _ stands (token _ _ _) meets
+    (returns-clause-found c)
