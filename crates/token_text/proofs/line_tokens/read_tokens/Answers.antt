@@ -35,7 +35,8 @@ pub returns-in-Err-BadEscape-clause-tokens : goal.returns-in-Err-BadEscape-claus
 returns-in-Err-BadEscape-clause-tokens c =
     let line = c.args.line.now in
     let at = c.tokens.at in
-    let bad = subst (Faults line at) c.in-Err-BadEscape.field-0-is c.in-Err-BadEscape.ensures.faults in
+    let bad =
+    subst (Faults line at) c.in-Err-BadEscape.field-0-is c.in-Err-BadEscape.ensures.faults in
     rw c.in-Err-BadEscape.place-is
     (before_stop line at c.tokens.tokens.items _ c.tokens.invariant.before (inl bad))
 

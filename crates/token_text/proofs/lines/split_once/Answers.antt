@@ -11,10 +11,12 @@ returns-then-bytes-i-clause-parts c =
     let below = c.loop-i-test.true in
     let later : length (drop (i + 1) bytes) ≤ length bytes - (i + 1) =
     omega (arith, length-drop (i + 1) bytes) in
-    let from_here = drop-cons bytes i 0 below ∙ ap (λ n. get_or bytes i 0 ∷ drop n bytes) (sym (add-one i)) in
+    let from_here =
+    drop-cons bytes i 0 below ∙ ap (λ n. get_or bytes i 0 ∷ drop n bytes) (sym (add-one i)) in
     let parts = sym (take-append-drop i bytes) ∙ ap (λ t. take i bytes ++ t) from_here in
     let byte = ap (λ b. take i bytes ++ (b ∷ drop (i + 1) bytes)) c.if-bytes-i.true in
-    let after = ap (λ t. take i bytes ++ (c.args.byte ∷ t)) (sym (take_all _ (drop (i + 1) bytes) later)) in
+    let after =
+    ap (λ t. take i bytes ++ (c.args.byte ∷ t)) (sym (take_all _ (drop (i + 1) bytes) later)) in
     (parts ∙ byte ∙ after, inside_from c.args.byte bytes i c.loop-i.invariant)
 
 pub returns-clause-none : goal.returns-clause-none
