@@ -4,7 +4,7 @@ use Rattle.base_items.specs.declared.items.ItemSort.TheVariants as sorts
 use Rattle.lgf_file.specs.Rows.{Cells}
 use Rattle.lgf_file.specs.declared.documents.Link.{Link}
 use Rattle.plain_digraph.specs.Items.{IsLive}
-use Rattle.plain_digraph.specs.Laws.{HasRoomForNode, HasRoomForArc}
+use Rattle.plain_digraph.specs.ValidLaws.{HasRoomForNode, HasRoomForArc}
 use Rattle.plain_digraph.specs.Steps.{new_node, new_arc}
 use Rattle.plain_machine.specs.World.{World, Attached, LacksName, item_label, item_texts, put_node, put_arc}
 

@@ -6,7 +6,7 @@ ghost use Rattle.plain_digraph.specs.Digraph as plain;
 ghost use Rattle.plain_digraph.specs.Items as items;
 ghost use Rattle.plain_digraph.specs.Steps as steps;
 ghost use Rattle.plain_digraph.specs.Valid.{IsValid};
-ghost use Rattle.plain_digraph.specs.Laws.{HasRoomForNode, HasRoomForArc};
+ghost use Rattle.plain_digraph.specs.ValidLaws.{HasRoomForNode, HasRoomForArc};
 ghost use Rattle.list_digraph.specs.Refusals.{RefusesNode, RefusesArc};
 ghost use Rattle.list_digraph.specs.Falling.{id_below};
 ghost use Rattle.list_digraph.specs.Rows.{ends_of};

@@ -1,21 +1,8 @@
-//! The laws of the digraph and of its plain steps. A function here has no code: its contract is the law.
+//! The laws of a digraph and of its additions.
+//!
+//! A function here has no code: its contract is the law.
 
 ghost use Rattle.plain_digraph.specs.Laws as laws;
-
-/// The empty digraph is valid.
-pub fn empty_is_valid()
-    ensures { laws.EmptyIsValid }
-{}
-
-/// A valid digraph stays valid where a node is added and there is room for it.
-pub fn added_node_is_valid()
-    ensures { laws.AddedNodeIsValid }
-{}
-
-/// A valid digraph stays valid where an arc is added between nodes and there is room for it.
-pub fn added_arc_is_valid()
-    ensures { laws.AddedArcIsValid }
-{}
 
 /// In a valid digraph no id stands twice in the list of nodes, nor in either list of arcs.
 pub fn live_ids_differ()
@@ -52,7 +39,8 @@ pub fn added_node_fact()
     ensures { laws.AddedNodeFact }
 {}
 
-/// The id of an added arc wasn't live, and what is told of it has its ends and the stamp that was next.
+/// The id of an added arc wasn't live, and what is told of it has its ends and the stamp that
+/// was next.
 pub fn added_arc_fact()
     ensures { laws.AddedArcFact }
 {}
