@@ -1,0 +1,12 @@
+pub mod ItemLemmas
+pub mod CountLemmas
+pub mod SlotLemmas
+pub mod KeptLemmas
+pub mod Undone
+pub mod ChangeLaws
+pub mod FitLaws
+pub mod SaveLaws
+pub mod LiveLaws
+pub mod LawLemmas
+pub mod SoundLemmas
+pub mod MadeLemmas
