@@ -1,0 +1,4 @@
+pub mod ColumnLemmas
+pub mod FillLemmas
+pub mod EmptyLemmas
+pub mod BlankLemmas
