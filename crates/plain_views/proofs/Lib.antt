@@ -1,0 +1,9 @@
+pub mod Renamed
+pub mod Base
+pub mod Walks
+pub mod Sides
+pub mod Doubled
+pub mod Adapted
+pub mod Walked
+pub mod Parted
+pub mod Towered

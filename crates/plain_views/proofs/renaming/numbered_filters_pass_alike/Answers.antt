@@ -1,0 +1,7 @@
+use Rattle.std.proofs.Common.{ℕ, List}
+use Rattle.plain_views.proofs.Renamed.{same_bools}
+use Rattle.plain_views.proofs.renaming.numbered_filters_pass_alike.Goals as goal
+
+pub returns : goal.returns
+returns c = λ number old new tower name arc agrees.
+    same_bools (List ℕ) ℕ number old new tower name arc agrees
