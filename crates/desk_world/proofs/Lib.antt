@@ -1,3 +1,4 @@
+pub mod Falling
 pub mod Walked
 pub mod Seen
 pub mod Tables

@@ -11,7 +11,7 @@ use Rattle.lgf_file.specs.Rows.{Cells}
 use Rattle.lgf_file.specs.Documents.{IsDoc, AreColumns, label, label_in}
 use Rattle.lgf_file.specs.declared.documents.Doc.{Doc}
 use Rattle.lgf_file.specs.declared.documents.Link.{Link}
-use Rattle.list_digraph.specs.Falling.{newest_first}
+use Rattle.desk_world.specs.Falling.{newest_first}
 use Rattle.plain_machine.specs.World.{World, Attached, LacksName, no_items, label_column, item_label, item_texts, put_node, put_arc, add_rows, add_links, opened, load}
 use Rattle.plain_digraph.specs.Steps.{new_node, new_arc}
 use Rattle.desk_world.specs.declared.rows.ItemRows.{ItemRows}

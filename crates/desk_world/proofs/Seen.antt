@@ -13,8 +13,8 @@ use Rattle.lgf_file.proofs.NameLists.{twice_push}
 use Rattle.plain_digraph.specs.Digraph.{Digraph}
 use Rattle.plain_digraph.specs.Lists.{all_but_first}
 use Rattle.plain_digraph.specs.Steps.{next_id, used_after, add_node, add_arc}
-use Rattle.list_digraph.specs.Falling.{newest_first}
-use Rattle.list_digraph.proofs.Falling.{get_newest_first, newest_first-push}
+use Rattle.desk_world.specs.Falling.{newest_first}
+use Rattle.desk_world.proofs.Falling.{get_newest_first, newest_first-push}
 use Rattle.plain_machine.specs.World.{Attributes, IsNamed, LacksName, label_of, attach}
 use Rattle.desk_world.specs.declared.rows.ItemRows.{ItemRows}
 use Rattle.desk_world.specs.Seen.{seen, AreRows, HasRows}

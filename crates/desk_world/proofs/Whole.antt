@@ -19,7 +19,7 @@ use Rattle.plain_digraph.specs.Digraph.{Digraph}
 use Rattle.plain_digraph.specs.Items.{source_of, target_of}
 use Rattle.plain_digraph.specs.Valid.{IsValid}
 use Rattle.plain_digraph.proofs.Live.{listed_below}
-use Rattle.list_digraph.proofs.Falling.{get_newest_first}
+use Rattle.desk_world.proofs.Falling.{get_newest_first}
 use Rattle.plain_machine.specs.World.{Attributes}
 use Rattle.plain_machine.specs.Documents.{rising, cells_of, link_of, row_of, doc_of}
 use Rattle.desk_world.specs.declared.rows.ItemRows.{ItemRows}

@@ -1,3 +1,4 @@
+pub mod Falling
 pub mod Fitting
 pub mod Lines
 pub mod Links

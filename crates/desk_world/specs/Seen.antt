@@ -5,7 +5,7 @@ use Rattle.token_text.specs.Names.{has_twice}
 use Rattle.lgf_file.specs.Rows.{Cells}
 use Rattle.lgf_file.specs.Documents.{label, label_at, AreColumns, AreAttributes}
 use Rattle.plain_digraph.specs.Digraph.{Digraph}
-use Rattle.list_digraph.specs.Falling.{newest_first}
+use Rattle.desk_world.specs.Falling.{newest_first}
 use Rattle.plain_machine.specs.World.{Attached, Attributes}
 use Rattle.desk_world.specs.declared.rows.ItemRows.{ItemRows}
 

@@ -18,12 +18,12 @@ pub fn copy_links(
     graph: &ListDigraph,
     rows: &ItemRows,
 ) -> Result<List<Link>, AllocError>
-    requires free { graph.now.free_arcs ≡ [] }
-    requires labels { length rows.now.labels ≡ graph.now.used_arcs }
-    requires texts { length rows.now.texts.items ≡ graph.now.used_arcs }
+    requires free { graph.now.graph.free_arcs ≡ [] }
+    requires labels { length rows.now.labels ≡ graph.now.graph.used_arcs }
+    requires texts { length rows.now.texts.items ≡ graph.now.graph.used_arcs }
     ensures links { IfOk result (λ links.
-        links ≡ map (link_at graph.now rows.now) (range_with_len 0 graph.now.used_arcs)) }
-    ensures valid { OnOk result (IsValid graph.now) }
+        links ≡ map (link_at graph.now.graph rows.now) (range_with_len 0 graph.now.graph.used_arcs)) }
+    ensures valid { OnOk result (IsValid graph.now.graph) }
 {
     let mut links = Vec::new(alloc);
     for id in 0..graph.count(ItemSort::Arc) {

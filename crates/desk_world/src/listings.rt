@@ -19,8 +19,8 @@ pub fn list_nodes(
     graph: &ListDigraph,
     labels: &LabelTable,
 ) -> Result<List<NodeLine>, AllocError>
-    requires { graph.now.used_nodes ≡ length labels.now }
-    ensures { IfOk result (λ lines. lines ≡ map (node_line labels.now) (items.ids graph.now.nodes)) }
+    requires { graph.now.graph.used_nodes ≡ length labels.now }
+    ensures { IfOk result (λ lines. lines ≡ map (node_line labels.now) (items.ids graph.now.graph.nodes)) }
 {
     let count = graph.count(ItemSort::Node);
     let nodes = node_order(alloc, graph)?;
@@ -40,10 +40,10 @@ pub fn list_arcs(
     node_labels: &LabelTable,
     arc_labels: &LabelTable,
 ) -> Result<List<ArcLine>, AllocError>
-    requires nodes { graph.now.used_nodes ≡ length node_labels.now }
-    requires arcs { graph.now.used_arcs ≡ length arc_labels.now }
+    requires nodes { graph.now.graph.used_nodes ≡ length node_labels.now }
+    requires arcs { graph.now.graph.used_arcs ≡ length arc_labels.now }
     ensures { IfOk result (λ lines.
-        lines ≡ map (arc_line graph.now node_labels.now arc_labels.now) (items.all_arcs graph.now)) }
+        lines ≡ map (arc_line graph.now.graph node_labels.now arc_labels.now) (items.all_arcs graph.now.graph)) }
 {
     let count = graph.count(ItemSort::Arc);
     let arcs = arc_order(alloc, graph)?;
@@ -62,11 +62,11 @@ fn told_arc(
     node_labels: &LabelTable,
     arc_labels: &LabelTable,
 ) -> Result<ArcLine, AllocError>
-    requires valid { IsValid graph.now }
-    requires live { items.IsLive graph.now ItemSort.Arc id }
-    requires nodes { graph.now.used_nodes ≡ length node_labels.now }
-    requires arcs { graph.now.used_arcs ≡ length arc_labels.now }
-    ensures { IfOk result (λ line. line ≡ arc_line graph.now node_labels.now arc_labels.now id) }
+    requires valid { IsValid graph.now.graph }
+    requires live { items.IsLive graph.now.graph ItemSort.Arc id }
+    requires nodes { graph.now.graph.used_nodes ≡ length node_labels.now }
+    requires arcs { graph.now.graph.used_arcs ≡ length arc_labels.now }
+    ensures { IfOk result (λ line. line ≡ arc_line graph.now.graph node_labels.now arc_labels.now id) }
 {
     let Some(fact) = graph.fact(ItemSort::Arc, id) else {
         unreachable!()

@@ -10,7 +10,7 @@ use std::alloc::{AllocError, Global};
 
 /// The ids of the nodes, the newest first.
 pub fn node_order(alloc: Global, graph: &ListDigraph) -> Result<Vec<u32>, AllocError>
-    ensures { IfOk result (λ nodes. nodes.items ≡ items.ids graph.now.nodes) }
+    ensures { IfOk result (λ nodes. nodes.items ≡ items.ids graph.now.graph.nodes) }
 {
     let mut nodes = Vec::new(alloc);
     let count = graph.count(ItemSort::Node);
@@ -24,7 +24,7 @@ pub fn node_order(alloc: Global, graph: &ListDigraph) -> Result<Vec<u32>, AllocE
 
 /// The ids of the arcs, for each node in turn those from it, the newest first.
 pub fn arc_order(alloc: Global, graph: &ListDigraph) -> Result<Vec<u32>, AllocError>
-    ensures { IfOk result (λ arcs. arcs.items ≡ items.all_arcs graph.now) }
+    ensures { IfOk result (λ arcs. arcs.items ≡ items.all_arcs graph.now.graph) }
 {
     let mut arcs = Vec::new(alloc);
     let count = graph.count(ItemSort::Arc);
@@ -37,9 +37,9 @@ pub fn arc_order(alloc: Global, graph: &ListDigraph) -> Result<Vec<u32>, AllocEr
 
 // Puts the arcs from the node behind the others.
 fn push_out_arcs(arcs: &mut Vec<u32>, graph: &ListDigraph, node: u32) -> Result<(), AllocError>
-    requires valid { IsValid graph.now }
-    requires live { items.IsLive graph.now ItemSort.Node node }
-    ensures { OnOk result (arcs.new.items ≡ arcs.old.items ++ items.out_arcs graph.now node) }
+    requires valid { IsValid graph.now.graph }
+    requires live { items.IsLive graph.now.graph ItemSort.Node node }
+    ensures { OnOk result (arcs.new.items ≡ arcs.old.items ++ items.out_arcs graph.now.graph node) }
 {
     let mut next = graph.first_out(Node(node));
     'arcs: while let Some(arc) = next {

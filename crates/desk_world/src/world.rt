@@ -42,9 +42,9 @@ impl Model for World {
 
     ghost coded = { world_code };
 
-    ghost view = { λ w. record { graph = w.graph; nodes = seen w.nodes; arcs = seen w.arcs; attributes = w.attributes } };
+    ghost view = { λ w. record { graph = w.graph.graph; nodes = seen w.nodes; arcs = seen w.arcs; attributes = w.attributes } };
 
-    ghost invariant = { λ w. HasRows w.graph w.nodes w.arcs w.attributes };
+    ghost invariant = { λ w. HasRows w.graph.graph w.nodes w.arcs w.attributes };
 }
 
 impl World {

@@ -9,7 +9,7 @@ use Rattle.desk_world.proofs.documents.copy_links.Goals as goal
 
 pub unreachable-requires : goal.unreachable-requires
 unreachable-requires c =
-    let graph = c.args.graph.now in
+    let graph = c.args.graph.now.graph in
     let id = c.loop-id.id in
     let valid = c.count-id-end.ensures.valid in
     let below : id < graph.used_arcs = omega (arith, c.loop-id-test.true, c.count-id-end.ensures.count, used_counted graph sorts.Arc valid c.requires.free) in
@@ -17,15 +17,15 @@ unreachable-requires c =
 
 pub copy_row-requires-clause-label : goal.copy_row-requires-clause-label
 copy_row-requires-clause-label c =
-    omega (arith, c.loop-id-test.true, c.count-id-end.ensures.count, used_counted c.args.graph.now sorts.Arc c.count-id-end.ensures.valid c.requires.free, c.requires.labels)
+    omega (arith, c.loop-id-test.true, c.count-id-end.ensures.count, used_counted c.args.graph.now.graph sorts.Arc c.count-id-end.ensures.valid c.requires.free, c.requires.labels)
 
 pub copy_row-requires-clause-texts : goal.copy_row-requires-clause-texts
 copy_row-requires-clause-texts c =
-    omega (arith, c.loop-id-test.true, c.count-id-end.ensures.count, used_counted c.args.graph.now sorts.Arc c.count-id-end.ensures.valid c.requires.free, c.requires.texts)
+    omega (arith, c.loop-id-test.true, c.count-id-end.ensures.count, used_counted c.args.graph.now.graph sorts.Arc c.count-id-end.ensures.valid c.requires.free, c.requires.texts)
 
 pub loop-id-preserved : goal.loop-id-preserved
 loop-id-preserved c =
-    let graph = c.args.graph.now in
+    let graph = c.args.graph.now.graph in
     let rows = c.args.rows.now in
     let id = c.loop-id.id in
     let told = sym c.fact.ensures ∙ c.in-Some.is in
@@ -42,7 +42,7 @@ loop-id-preserved c =
 
 pub returns-clause-links : goal.returns-clause-links
 returns-clause-links c =
-    let graph = c.args.graph.now in
+    let graph = c.args.graph.now.graph in
     c.from_vec.ensures ∙ c.loop-id.invariant
     ∙ ap (λ n. map (link_at graph c.args.rows.now) (range_with_len 0 n))
     (omega (arith, c.loop-id-test.false, c.count-id-end.ensures.count, used_counted graph sorts.Arc c.count-id-end.ensures.valid c.requires.free))

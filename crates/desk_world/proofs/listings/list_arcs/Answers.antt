@@ -6,7 +6,7 @@ use Rattle.desk_world.proofs.listings.list_arcs.Goals as goal
 
 pub told_arc-requires-clause-live : goal.told_arc-requires-clause-live
 told_arc-requires-clause-live c =
-    let graph = c.args.graph.now in
+    let graph = c.args.graph.now.graph in
     let items = c.as_slice-id-items.result.now in
     let place = c.loop-id.id-index in
     let order : items ≡ all_arcs graph = c.as_slice-id-items.ensures.value ∙ c.in_ok-arcs.ensures in

@@ -8,7 +8,7 @@ use Rattle.desk_world.proofs.listings.list_nodes.Goals as goal
 
 pub copy_label-requires : goal.copy_label-requires
 copy_label-requires c =
-    let graph = c.args.graph.now in
+    let graph = c.args.graph.now.graph in
     let items = c.as_slice-id-items.result.now in
     let place = c.loop-id.id-index in
     let order : items ≡ ids graph.nodes = c.as_slice-id-items.ensures.value ∙ c.in_ok-nodes.ensures in

@@ -10,11 +10,11 @@ use Rattle.desk_world.proofs.orders.push_out_arcs.Goals as goal
 pub next_out-next-requires : goal.next_out-next-requires
 next_out-next-requires c =
     let listed = c.arcs.invariant.listed c.in-Some.arc.0 (ap (option_map (λ (a : Arc). a.0)) c.in-Some.is) in
-    (out_arc_own c.args.graph.now c.args.node c.in-Some.arc.0 listed).0
+    (out_arc_own c.args.graph.now.graph c.args.node c.in-Some.arc.0 listed).0
 
 pub arcs-smaller : goal.arcs-smaller
 arcs-smaller c =
-    let graph = c.args.graph.now in
+    let graph = c.args.graph.now.graph in
     let listed = c.arcs.invariant.listed c.in-Some.arc.0 (ap (option_map (λ (a : Arc). a.0)) c.in-Some.is) in
     let own = out_arc_own graph c.args.node c.in-Some.arc.0 listed in
     let goes = c.next_out-next.ensures ∙ ap (λ n. after (out_arcs graph n) c.in-Some.arc.0) own.1 in
@@ -22,7 +22,7 @@ arcs-smaller c =
 
 pub arcs-preserved : goal.arcs-preserved
 arcs-preserved c =
-    let graph = c.args.graph.now in
+    let graph = c.args.graph.now.graph in
     let listed = c.arcs.invariant.listed c.in-Some.arc.0 (ap (option_map (λ (a : Arc). a.0)) c.in-Some.is) in
     let own = out_arc_own graph c.args.node c.in-Some.arc.0 listed in
     let goes = c.next_out-next.ensures ∙ ap (λ n. after (out_arcs graph n) c.in-Some.arc.0) own.1 in

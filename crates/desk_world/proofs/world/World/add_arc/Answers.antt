@@ -64,7 +64,7 @@ overflow_cast-target c =
 
 pub put_arc-requires : goal.put_arc-requires
 put_arc-requires c =
-    let graph = c.self.inside.graph in
+    let graph = c.self.inside.graph.graph in
     let valid = c.count.ensures.valid in
     let rows = c.self.invariant.node_rows in
     let seen_graph = ap (λ (w : World). w.graph) c.self.view_is in

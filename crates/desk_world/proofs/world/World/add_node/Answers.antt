@@ -33,7 +33,7 @@ put_node-requires c =
     record {
       fits = record { new = lacks; wide = wide };
       room = (
-        omega (arith, c.count.ensures.count, c.count.ensures.valid, c.if-count-eq-MAX_NODES.false, few_live c.self.inside.graph sorts.Node c.count.ensures.valid, ap (λ (w : World). length w.graph.nodes) c.self.view_is),
+        omega (arith, c.count.ensures.count, c.count.ensures.valid, c.if-count-eq-MAX_NODES.false, few_live c.self.inside.graph.graph sorts.Node c.count.ensures.valid, ap (λ (w : World). length w.graph.nodes) c.self.view_is),
         c.requires,
       );
     }

@@ -8,7 +8,7 @@ use Rattle.desk_world.proofs.world.World.doc.Goals as goal
 
 module _ (c : In_ok-copy_attributes) where
   abbrev whole : Doc
-  whole = built c.self.inside.graph c.self.inside.nodes c.self.inside.arcs c.self.inside.attributes c.in_ok-copy_links.ensures.valid c.self.invariant
+  whole = built c.self.inside.graph.graph c.self.inside.nodes c.self.inside.arcs c.self.inside.attributes c.in_ok-copy_links.ensures.valid c.self.invariant
 
   abbrev made : Doc
   made = record {
@@ -30,10 +30,10 @@ module _ (c : In_ok-copy_attributes) where
 pub returns-clause-doc : goal.returns-clause-doc
 returns-clause-doc c =
     made_is c
-    ∙ built_is c.self.inside.graph c.self.inside.nodes c.self.inside.arcs c.self.inside.attributes c.in_ok-copy_links.ensures.valid c.self.invariant
+    ∙ built_is c.self.inside.graph.graph c.self.inside.nodes c.self.inside.arcs c.self.inside.attributes c.in_ok-copy_links.ensures.valid c.self.invariant
     ∙ ap doc_of c.self.view_is
 
 pub returns-clause-valid : goal.returns-clause-valid
 returns-clause-valid c =
     subst IsDoc (sym (made_is c))
-    (built_valid c.self.inside.graph c.self.inside.nodes c.self.inside.arcs c.self.inside.attributes c.in_ok-copy_links.ensures.valid c.self.invariant)
+    (built_valid c.self.inside.graph.graph c.self.inside.nodes c.self.inside.arcs c.self.inside.attributes c.in_ok-copy_links.ensures.valid c.self.invariant)

@@ -16,5 +16,5 @@ invariant_of-self-in-Ok c =
     let more : HasMore c.self.inside.arcs c.args.label c.args.texts c.push.new.self =
     record { labels = pushed.labels; texts_are = pushed.texts; columns = pushed.columns } in
     rw c.in-Ok.ensures.added
-    (arc_more c.self.inside.graph c.self.inside.nodes c.self.inside.arcs c.push.new.self c.self.inside.attributes
+    (arc_more c.self.inside.graph.graph c.self.inside.nodes c.self.inside.arcs c.push.new.self c.self.inside.attributes
     c.args.label c.args.texts c.args.from c.args.to c.self.invariant more (lacks_name c.self.inside.arcs c.args.label fits.fits.new) fits.fits.wide)

@@ -1,0 +1,172 @@
+-- What the calls make of the fields where an arc is laid at given places.
+use Rattle.std.proofs.Common.{◌≡◌, ℕ, ◌<◌, ◌≤◌, true, List, length, get_or, set, None, Option, sym, ap, subst, ◌∙◌, arith}
+use Rattle.std.specs.Prelude.{slice_set}
+use Rattle.base_items.specs.declared.items.Fact.{Fact}
+use Rattle.base_items.specs.declared.items.ItemSort.TheVariants as sorts
+use Rattle.linked_lists.specs.declared.lists.Link.{Link}
+use Rattle.linked_lists.specs.Links.{IsPlace, AreWithin, next_from, removed, head_removed, inserted, head_inserted}
+use Rattle.linked_lists.proofs.Changes.{removed-length}
+use Rattle.plain_digraph.specs.Digraph.{Digraph}
+use Rattle.plain_digraph.specs.Items.{IsLive}
+use Rattle.plain_digraph.specs.Steps.{laid_by}
+use Rattle.plain_digraph.specs.Undo.{before_move}
+use Rattle.plain_digraph.specs.Valid.{IsValid}
+use Rattle.plain_digraph.specs.UndoLaws.{MovesTo}
+use Rattle.plain_digraph.proofs.Keys.{get_new}
+use Rattle.plain_digraph.proofs.Listed.{moved_live}
+use Rattle.list_digraph.specs.declared.graph.ListDigraph.TheInside.{Inside}
+use Rattle.list_digraph.specs.declared.rows.NodeRow.{NodeRow}
+use Rattle.list_digraph.specs.declared.rows.ArcRow.{ArcRow}
+use Rattle.list_digraph.specs.declared.rows.Side.TheVariants.{Source, Target}
+use Rattle.list_digraph.specs.Rows.{node_stamps, out_heads, in_heads, head_at, SetsOut, SetsIn}
+use Rattle.list_digraph.specs.Tables.{Shows, chain}
+use Rattle.list_digraph.specs.Places.{stamp_in, last_newer}
+use Rattle.list_digraph.specs.Inside.{tables_of}
+use Rattle.list_digraph.proofs.Columns.{out_head as read_out_head, in_head as read_in_head}
+use Rattle.list_digraph.proofs.Seen.{node_below, row_source, row_target}
+use Rattle.list_digraph.proofs.ArcSteps.{outs_left, ins_left}
+use Rattle.list_digraph.proofs.ArcMoves.{out_head_placed, in_head_placed}
+use Rattle.list_digraph.proofs.Moved.{left_heads}
+use Rattle.list_digraph.proofs.Relaid.{out_head, in_head, out_behind, in_behind, out_chain_within, in_chain_within, out_behind_placed, in_behind_placed, out_next_placed, in_next_placed, laid_shows}
+
+module _ (f : Inside) {g : Digraph} (s : Shows (tables_of f) g) (fact : Fact) (old : ArcRow) (live : IsLive g sorts.Arc fact.id)
+    (is : old ≡ get_or f.arcs.items fact.id old) (from_live : IsLive g sorts.Node fact.from) (to_live : IsLive g sorts.Node fact.to) where
+  abbrev arc : ℕ
+  arc = fact.id
+
+  abbrev o_head : Option ℕ
+  o_head = out_head s arc live fact.from fact.from_at from_live
+
+  abbrev i_head : Option ℕ
+  i_head = in_head s arc live fact.to fact.to_at to_live
+
+  abbrev o_behind : Option ℕ
+  o_behind = out_behind s arc live fact.from fact.from_at from_live
+
+  abbrev i_behind : Option ℕ
+  i_behind = in_behind s arc live fact.to fact.to_at to_live
+
+  -- ---- by source
+
+  module _ (nodes1 : List NodeRow) (links1 : List Link)
+      (leaves : SetsOut f.nodes.items nodes1 old.from (head_removed (head_at (out_heads f.nodes.items) old.from) f.out_links.items arc)) (left : links1 ≡ removed f.out_links.items arc) where
+    pub outs_are_left : out_heads nodes1 ≡ outs_left s arc live
+    outs_are_left = leaves.outs ∙ ap (left_heads (out_heads f.nodes.items) f.out_links.items arc) (row_source s arc old live is)
+
+    pub out_head_read : (row : NodeRow) → fact.from < length nodes1 → row ≡ get_or nodes1 fact.from row → row.first_out ≡ o_head
+    out_head_read row below read = ap (λ (r : NodeRow). r.first_out) read ∙ read_out_head nodes1 fact.from row below ∙ ap (λ h. head_at h fact.from) outs_are_left
+
+    pub out_walk_within : (first : Option ℕ) → first ≡ o_head → AreWithin (length links1) (chain links1 (length links1) first)
+    out_walk_within first head = subst (λ (l : List Link). AreWithin (length l) (chain l (length l) first)) (sym left)
+        (subst (λ o. AreWithin (length (removed f.out_links.items arc)) (chain (removed f.out_links.items arc) (length (removed f.out_links.items arc)) o)) (sym head)
+        (out_chain_within s arc live fact.from fact.from_at from_live))
+
+    pub out_walk_rows : length f.arcs.items ≡ length links1
+    out_walk_rows = s.arcs_used ∙ sym s.out_links_used ∙ sym (ap length left ∙ removed-length f.out_links.items arc)
+
+    pub out_walk_is : (first behind : Option ℕ) → first ≡ o_head → behind ≡ last_newer (stamp_in Source f.arcs.items) fact.from_at None (chain links1 (length links1) first) → behind ≡ o_behind
+    out_walk_is first behind head walked = walked ∙ (λ i. last_newer (stamp_in Source f.arcs.items) fact.from_at None (chain (left i) (length (left i)) (head i)))
+
+    pub out_enter_head : IsPlace (length links1) (head_at (out_heads nodes1) fact.from)
+    out_enter_head =
+        let below = node_below s fact.from from_live in
+        subst (λ h. IsPlace (length links1) (head_at h fact.from)) (sym outs_are_left)
+        (subst (λ (l : List Link). IsPlace (length l) o_head) (sym left) (out_head_placed s arc live fact.from (omega (arith, below, s.outs_used))))
+
+    pub out_enter_behind : (behind : Option ℕ) → behind ≡ o_behind → IsPlace (length links1) behind
+    out_enter_behind behind b = subst (IsPlace (length links1)) (sym b)
+        (subst (λ (l : List Link). IsPlace (length l) o_behind) (sym left) (out_behind_placed s arc live fact.from fact.from_at from_live))
+
+    pub out_enter_next : (behind : Option ℕ) → behind ≡ o_behind → IsPlace (length links1) (next_from (head_at (out_heads nodes1) fact.from) links1 behind)
+    out_enter_next behind b = subst (λ h. IsPlace (length links1) (next_from (head_at h fact.from) links1 behind)) (sym outs_are_left)
+        (subst (λ o. IsPlace (length links1) (next_from o_head links1 o)) (sym b)
+        (subst (λ (l : List Link). IsPlace (length l) (next_from o_head l o_behind)) (sym left) (out_next_placed s arc live fact.from fact.from_at from_live)))
+
+  -- ---- by target
+
+  module _ (nodes0 nodes1 : List NodeRow) (links1 : List Link) (same : in_heads nodes0 ≡ in_heads f.nodes.items)
+      (leaves : SetsIn nodes0 nodes1 old.to (head_removed (head_at (in_heads nodes0) old.to) f.in_links.items arc)) (left : links1 ≡ removed f.in_links.items arc) where
+    pub ins_are_left : in_heads nodes1 ≡ ins_left s arc live
+    ins_are_left = leaves.ins ∙ ap (λ h. left_heads h f.in_links.items arc old.to) same ∙ ap (left_heads (in_heads f.nodes.items) f.in_links.items arc) (row_target s arc old live is)
+
+    pub in_head_read : (row : NodeRow) → fact.to < length nodes1 → row ≡ get_or nodes1 fact.to row → row.first_in ≡ i_head
+    in_head_read row below read = ap (λ (r : NodeRow). r.first_in) read ∙ read_in_head nodes1 fact.to row below ∙ ap (λ h. head_at h fact.to) ins_are_left
+
+    pub in_walk_within : (first : Option ℕ) → first ≡ i_head → AreWithin (length links1) (chain links1 (length links1) first)
+    in_walk_within first head = subst (λ (l : List Link). AreWithin (length l) (chain l (length l) first)) (sym left)
+        (subst (λ o. AreWithin (length (removed f.in_links.items arc)) (chain (removed f.in_links.items arc) (length (removed f.in_links.items arc)) o)) (sym head)
+        (in_chain_within s arc live fact.to fact.to_at to_live))
+
+    pub in_walk_rows : length f.arcs.items ≡ length links1
+    in_walk_rows = s.arcs_used ∙ sym s.in_links_used ∙ sym (ap length left ∙ removed-length f.in_links.items arc)
+
+    pub in_walk_is : (first behind : Option ℕ) → first ≡ i_head → behind ≡ last_newer (stamp_in Target f.arcs.items) fact.to_at None (chain links1 (length links1) first) → behind ≡ i_behind
+    in_walk_is first behind head walked = walked ∙ (λ i. last_newer (stamp_in Target f.arcs.items) fact.to_at None (chain (left i) (length (left i)) (head i)))
+
+    pub in_enter_head : IsPlace (length links1) (head_at (in_heads nodes1) fact.to)
+    in_enter_head =
+        let below = node_below s fact.to to_live in
+        subst (λ h. IsPlace (length links1) (head_at h fact.to)) (sym ins_are_left)
+        (subst (λ (l : List Link). IsPlace (length l) i_head) (sym left) (in_head_placed s arc live fact.to (omega (arith, below, s.ins_used))))
+
+    pub in_enter_behind : (behind : Option ℕ) → behind ≡ i_behind → IsPlace (length links1) behind
+    in_enter_behind behind b = subst (IsPlace (length links1)) (sym b)
+        (subst (λ (l : List Link). IsPlace (length l) i_behind) (sym left) (in_behind_placed s arc live fact.to fact.to_at to_live))
+
+    pub in_enter_next : (behind : Option ℕ) → behind ≡ i_behind → IsPlace (length links1) (next_from (head_at (in_heads nodes1) fact.to) links1 behind)
+    in_enter_next behind b = subst (λ h. IsPlace (length links1) (next_from (head_at h fact.to) links1 behind)) (sym ins_are_left)
+        (subst (λ o. IsPlace (length links1) (next_from i_head links1 o)) (sym b)
+        (subst (λ (l : List Link). IsPlace (length l) (next_from i_head l i_behind)) (sym left) (in_next_placed s arc live fact.to fact.to_at to_live)))
+
+  -- ---- the whole
+
+  pub shows_laid : (stamps : ℕ) (nodes1 nodes2 nodes3 nodes4 : List NodeRow) (links1 links2 links3 links4 : List Link) (behind1 behind2 : Option ℕ)
+      → IsValid (laid_by g fact stamps)
+      → SetsOut f.nodes.items nodes1 old.from (head_removed (head_at (out_heads f.nodes.items) old.from) f.out_links.items arc) → links1 ≡ removed f.out_links.items arc
+      → behind1 ≡ o_behind
+      → SetsOut nodes1 nodes2 fact.from (head_inserted (head_at (out_heads nodes1) fact.from) behind1 arc) → links2 ≡ inserted (head_at (out_heads nodes1) fact.from) links1 behind1 arc
+      → SetsIn nodes2 nodes3 old.to (head_removed (head_at (in_heads nodes2) old.to) f.in_links.items arc) → links3 ≡ removed f.in_links.items arc
+      → behind2 ≡ i_behind
+      → SetsIn nodes3 nodes4 fact.to (head_inserted (head_at (in_heads nodes3) fact.to) behind2 arc) → links4 ≡ inserted (head_at (in_heads nodes3) fact.to) links3 behind2 arc
+      → Shows (record (tables_of f) {
+        node_stamps = node_stamps nodes4;
+        first_outs = out_heads nodes4;
+        first_ins = in_heads nodes4;
+        out_links = links2;
+        in_links = links4;
+        arcs = slice_set f.arcs.items arc (record { live = true; from = fact.from; to = fact.to; from_at = fact.from_at; to_at = fact.to_at });
+        stamps = stamps;
+      })
+      (laid_by g fact stamps)
+  shows_laid stamps nodes1 nodes2 nodes3 nodes4 links1 links2 links3 links4 behind1 behind2 valid out1 left1 is1 out2 entered2 in3 left3 is2 in4 entered4 =
+      let same : in_heads nodes2 ≡ in_heads f.nodes.items = out2.ins ∙ out1.ins in
+      let heads1 = outs_are_left nodes1 links1 out1 left1 in
+      let heads3 = ins_are_left nodes2 nodes3 links3 same in3 left3 in
+      let stamps_are : node_stamps nodes4 ≡ node_stamps f.nodes.items = in4.stamps ∙ in3.stamps ∙ out2.stamps ∙ out1.stamps in
+      let outs : out_heads nodes4 ≡ set (outs_left s arc live) fact.from (head_inserted o_head o_behind arc) =
+      in4.outs ∙ in3.outs ∙ out2.outs ∙ (λ i. set (heads1 i) fact.from (head_inserted (head_at (heads1 i) fact.from) (is1 i) arc)) in
+      let ins : in_heads nodes4 ≡ set (ins_left s arc live) fact.to (head_inserted i_head i_behind arc) =
+      in4.ins ∙ (λ i. set (heads3 i) fact.to (head_inserted (head_at (heads3 i) fact.to) (is2 i) arc)) in
+      let out_links : links2 ≡ inserted o_head (removed f.out_links.items arc) o_behind arc = entered2 ∙ (λ i. inserted (head_at (heads1 i) fact.from) (left1 i) (is1 i) arc) in
+      let in_links : links4 ≡ inserted i_head (removed f.in_links.items arc) i_behind arc = entered4 ∙ (λ i. inserted (head_at (heads3 i) fact.to) (left3 i) (is2 i) arc) in
+      subst (λ t. Shows t (laid_by g fact stamps))
+      (λ j. record (tables_of f) {
+        node_stamps = sym stamps_are j;
+        first_outs = sym outs j;
+        first_ins = sym ins j;
+        out_links = sym out_links j;
+        in_links = sym in_links j;
+        arcs = slice_set f.arcs.items arc (record { live = true; from = fact.from; to = fact.to; from_at = fact.from_at; to_at = fact.to_at });
+        stamps = stamps;
+      })
+      (laid_shows s fact stamps live from_live to_live valid)
+
+-- ---- a move that is undone
+
+pub moved_facts : (g : Digraph) (old : Fact) → IsValid (before_move g old) → MovesTo (before_move g old) old.id g
+    → IsLive g sorts.Arc old.id × IsLive g sorts.Node old.from × IsLive g sorts.Node old.to × (1 ≤ g.stamps)
+moved_facts g old valid moves =
+    let after = moved_live (before_move g old) g old.id moves in
+    let ends = valid.ends_live old.id old.from old.to (get_new g.ends old.id (old.from, old.to)) in
+    let stamps = after.1 in
+    (after.0, ends.0, ends.1, omega (arith, stamps))
