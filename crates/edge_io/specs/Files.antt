@@ -32,12 +32,14 @@ pub record ReadsPart (bytes : List ℕ) (at count : ℕ) (into : List ℕ) : Typ
 
 -- the file is there, and these bytes of it were read
 abbrev pub ReadsFile : Files → List ℕ → ℕ → ℕ → List ℕ → Type 0
-ReadsFile files name at count into = (bytes : List ℕ) × Holds files name bytes × ReadsPart bytes at count into
+ReadsFile files name at count into =
+    (bytes : List ℕ) × Holds files name bytes × ReadsPart bytes at count into
 
 -- what a failed store leaves: the files as they were, or with a prefix of the bytes under the name
 abbrev pub KeepsPart : Files → List ℕ → List ℕ → Files → Type 0
 KeepsPart before name bytes now =
-    (now ≡ before) ⊎ ((count : ℕ) × (count ≤ length bytes) × (now ≡ map.insert before name (take count bytes)))
+    (now ≡ before) ⊎ ((count : ℕ) × (count ≤ length bytes)
+    × (now ≡ map.insert before name (take count bytes)))
 
 -- these bytes went to the end of what was taken
 abbrev pub Took : Option (List ℕ) → Option (List ℕ) → List ℕ → Type 0

@@ -1,11 +1,11 @@
 //! A shelf in memory, which tells its files and fails where it is told to.
 
-ghost use Rattle.std.specs.Prelude.{◌≡◌, ℕ, List, ◌^◌, ◌<◌, ◌≤◌, ◌-◌, ◌||◌, [], length, min, drop, Some, IfOk, OnOk, OnErr, IsErr, IsTrue, is_err, is_none, if◌then◌else◌};
+ghost use Rattle.std.specs.Prelude.{◌≡◌, ℕ, List, ◌^◌, ◌<◌, ◌≤◌, ◌-◌, ◌||◌, ◌&&◌, not, [], length, min, drop, Some, IfOk, OnOk, OnErr, IsErr, IsTrue, is_err, is_none};
 ghost use Rattle.std.specs.Option.{option_copied};
 ghost use Rattle.std.specs.FinMap as map;
-ghost use Rattle.edge_io.specs.Causes.{Rose, NeverFall};
+ghost use Rattle.edge_io.specs.Causes.{Rose, NeverFall, StayedSame, one_more, counted};
 ghost use Rattle.edge_io.specs.Files.{Files, Holds, ReadsFile, KeepsPart};
-ghost use Rattle.edge_io.specs.Memory.{one_more, is_listed};
+ghost use Rattle.edge_io.specs.Memory.{is_listed};
 
 use crate::faults::Failed;
 use crate::shelves::Shelf;
@@ -14,7 +14,7 @@ use std::collections::VecDeque;
 use std::marker::Model;
 
 /// A shelf in memory. It fails a read exactly where the call is listed or the file is missing, and a
-/// store where the call is listed and else only where memory runs out.
+/// store exactly where the call is listed or memory runs out, which is counted.
 #[derive(Drop)]
 pub struct MemShelf {
     // the newest first, which hides an older file of its name
@@ -25,6 +25,7 @@ pub struct MemShelf {
     stores: u64,
     read_faults: u64,
     store_faults: u64,
+    memory_faults: u64,
 }
 
 impl Model for MemShelf {
@@ -36,13 +37,31 @@ impl Model for MemShelf {
 
     ghost coded = { shelf_code };
 
-    ghost view = { λ a. record { files = map.from_entries (each (entry_of (λ v. v.items)) a.files.items); bad_reads = a.bad_reads.items; bad_stores = a.bad_stores.items; reads = a.reads; stores = a.stores; read_faults = a.read_faults; store_faults = a.store_faults } };
+    ghost view = { λ a. record {
+      files = map.from_entries (each (entry_of (λ v. v.items)) a.files.items);
+      bad_reads = a.bad_reads.items;
+      bad_stores = a.bad_stores.items;
+      reads = a.reads;
+      stores = a.stores;
+      read_faults = a.read_faults;
+      store_faults = a.store_faults;
+      memory_faults = a.memory_faults;
+    } };
 }
 
 impl MemShelf {
     /// A shelf that has no file and lists no call.
     pub fn new(alloc: Global) -> MemShelf
-        ensures { result ≡ record { files = map.empty; bad_reads = []; bad_stores = []; reads = 0; stores = 0; read_faults = 0; store_faults = 0 } }
+        ensures { result ≡ record {
+          files = map.empty;
+          bad_reads = [];
+          bad_stores = [];
+          reads = 0;
+          stores = 0;
+          read_faults = 0;
+          store_faults = 0;
+          memory_faults = 0;
+        } }
     {
         MemShelf {
             files: VecDeque::new(alloc),
@@ -52,12 +71,14 @@ impl MemShelf {
             stores: 0,
             read_faults: 0,
             store_faults: 0,
+            memory_faults: 0,
         }
     }
 
     /// Gives the file just these bytes. This is no store, and isn't counted.
     pub fn add_file(&mut self, name: Vec<u8>, bytes: Vec<u8>) -> Result<(), AllocError>
-        ensures ok { OnOk result (self.new ≡ record self.old { files = map.insert self.old.files name.items bytes.items }) }
+        ensures ok { OnOk result (self.new
+            ≡ record self.old { files = map.insert self.old.files name.items bytes.items }) }
         ensures err { OnErr result (self.new ≡ self.old) }
     {
         self.files.push_front((name, bytes))?;
@@ -79,14 +100,23 @@ impl MemShelf {
     /// Lists the numbers of the reads and of the stores that fail, each counted from 1 since the
     /// shelf was made.
     pub fn fail_at(&mut self, reads: Vec<u64>, stores: Vec<u64>)
-        ensures { self.new ≡ record self.old { bad_reads = reads.items; bad_stores = stores.items } }
+        ensures { self.new
+            ≡ record self.old { bad_reads = reads.items; bad_stores = stores.items } }
     {
         self.bad_reads = reads;
         self.bad_stores = stores;
     }
 
+    /// How many stores failed since memory ran out.
+    pub fn memory_faults(&self) -> u64
+        ensures { result ≡ self.now.memory_faults }
+    {
+        self.memory_faults
+    }
+
     fn keep(&mut self, name: &[u8], bytes: &[u8]) -> Result<(), AllocError>
-        ensures ok { OnOk result (self.new ≡ record self.old { files = map.insert self.old.files name.now bytes.now }) }
+        ensures ok { OnOk result (self.new
+            ≡ record self.old { files = map.insert self.old.files name.now bytes.now }) }
         ensures err { OnErr result (self.new ≡ self.old) }
     {
         let alloc = *self.bad_stores.allocator();
@@ -112,16 +142,20 @@ impl Shelf for MemShelf {
         ensures same { Some self.new.files ≡ Some self.old.files }
         ensures reads { NeverFall (λ _. self.old.read_faults) (λ _. self.new.read_faults) }
         ensures stores { NeverFall (λ _. self.old.store_faults) (λ _. self.new.store_faults) }
+        ensures quiet { IfOk result (λ _.
+            StayedSame (λ _. self.old.read_faults) (λ _. self.new.read_faults)
+            × StayedSame (λ _. self.old.store_faults) (λ _. self.new.store_faults)) }
         ensures cause { OnErr result (Rose self.old.read_faults self.new.read_faults) }
 
-        ensures fails { is_err result
-            ≡ (is_listed self.old.bad_reads (one_more self.old.reads) || is_none (map.get self.old.files name.now)) }
+        ensures fails { is_err result ≡ (is_listed self.old.bad_reads (one_more self.old.reads)
+            || is_none (map.get self.old.files name.now)) }
         ensures fills { IfOk result (λ count. (bytes : List ℕ) → Holds self.old.files name.now bytes
             → count ≡ min (length into.old) (length bytes - at)) }
         ensures beyond { IfOk result (λ count. drop count into.new ≡ drop count into.old) }
         ensures counted { (self.new.reads ≡ one_more self.old.reads)
-            × (self.new.read_faults ≡ (if is_err result then one_more self.old.read_faults else self.old.read_faults)) }
-        ensures kept { self.new ≡ record self.old { reads = self.new.reads; read_faults = self.new.read_faults } }
+            × (self.new.read_faults ≡ counted (is_err result) self.old.read_faults) }
+        ensures kept { self.new
+            ≡ record self.old { reads = self.new.reads; read_faults = self.new.read_faults } }
     {
         self.reads = self.reads.saturating_add(1);
         let found = if self.bad_reads.as_slice().contains(&self.reads) {
@@ -146,18 +180,35 @@ impl Shelf for MemShelf {
             → (now : Files) × (Some self.new.files ≡ Some now) × KeepsPart all name.now bytes.now now) }
         ensures reads { NeverFall (λ _. self.old.read_faults) (λ _. self.new.read_faults) }
         ensures stores { NeverFall (λ _. self.old.store_faults) (λ _. self.new.store_faults) }
+        ensures quiet { OnOk result (
+            StayedSame (λ _. self.old.read_faults) (λ _. self.new.read_faults)
+            × StayedSame (λ _. self.old.store_faults) (λ _. self.new.store_faults)) }
         ensures cause { OnErr result (Rose self.old.store_faults self.new.store_faults) }
 
         ensures unchanged { OnErr result (self.new.files ≡ self.old.files) }
-        ensures listed { IsTrue (is_listed self.old.bad_stores (one_more self.old.stores)) → IsErr result }
+        // It fails where it is listed, and else only where memory ran out.
+        ensures listed { IsTrue (is_listed self.old.bad_stores (one_more self.old.stores))
+            → IsErr result }
+        ensures memory { self.new.memory_faults
+            ≡ counted (is_err result && not (is_listed self.old.bad_stores (one_more self.old.stores)))
+            self.old.memory_faults }
         ensures counted { (self.new.stores ≡ one_more self.old.stores)
-            × (self.new.store_faults ≡ (if is_err result then one_more self.old.store_faults else self.old.store_faults)) }
-        ensures kept { self.new
-            ≡ record self.old { files = self.new.files; stores = self.new.stores; store_faults = self.new.store_faults } }
+            × (self.new.store_faults ≡ counted (is_err result) self.old.store_faults) }
+        ensures kept { self.new ≡ record self.old {
+          files = self.new.files;
+          stores = self.new.stores;
+          store_faults = self.new.store_faults;
+          memory_faults = self.new.memory_faults;
+        } }
     {
         self.stores = self.stores.saturating_add(1);
-        if self.bad_stores.as_slice().contains(&self.stores) || self.keep(name, bytes).is_err() {
+        if self.bad_stores.as_slice().contains(&self.stores) {
             self.store_faults = self.store_faults.saturating_add(1);
+            return Err(Failed);
+        }
+        if self.keep(name, bytes).is_err() {
+            self.store_faults = self.store_faults.saturating_add(1);
+            self.memory_faults = self.memory_faults.saturating_add(1);
             return Err(Failed);
         }
         Ok(())

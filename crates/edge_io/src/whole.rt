@@ -1,7 +1,7 @@
 //! Whole files and whole pieces, by repeated calls.
 
 ghost use Rattle.std.specs.Prelude.{◌≡◌, ℕ, ◌^◌, ◌<◌, ◌≤◌, List, length, take, Some, IfOk, OnOk, OnErr, IsErrOf};
-ghost use Rattle.edge_io.specs.Causes.{Rose, NeverFall};
+ghost use Rattle.edge_io.specs.Causes.{Rose, NeverFall, StayedSame};
 ghost use Rattle.edge_io.specs.Files.{Files, Holds, IsTooLong, Took};
 
 use crate::faults::{Failed, InFault};
@@ -32,6 +32,10 @@ pub fn read_whole<S: Shelf>(
     ensures same { S.files shelf.new ≡ S.files shelf.old }
     ensures reads { NeverFall (S.read_faults shelf.old) (S.read_faults shelf.new) }
     ensures stores { NeverFall (S.store_faults shelf.old) (S.store_faults shelf.new) }
+    // Unless a call failed, no count has changed.
+    ensures quiet { (IsErrOf result InFault.Failed → ⊥)
+        → StayedSame (S.read_faults shelf.old) (S.read_faults shelf.new)
+        × StayedSame (S.store_faults shelf.old) (S.store_faults shelf.new) }
 {
     let mut bytes = Vec::new(alloc);
     let mut chunk = [0; CHUNK];
@@ -56,6 +60,7 @@ pub fn write_piece<K: Sink>(sink: &mut K, bytes: &[u8]) -> Result<(), Failed>
     ensures part { OnErr result ((count : ℕ) × (count < length bytes.now)
         × Took (K.taken sink.old) (K.taken sink.new) (take count bytes.now)) }
     ensures later { K.faults sink.old ≤ K.faults sink.new }
+    ensures quiet { OnOk result (K.faults sink.new ≡ K.faults sink.old) }
     ensures cause { OnErr result (Rose (K.faults sink.old) (K.faults sink.new)) }
 {
     let mut done = 0;

@@ -4,3 +4,4 @@ pub mod Steps
 pub mod Texts
 pub mod Runs
 pub mod Outcome
+pub mod Statuses

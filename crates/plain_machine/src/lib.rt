@@ -5,9 +5,11 @@
 #![tactic(auto)]
 
 mod answers;
+mod laws;
 mod limits;
 mod statuses;
 
 pub use answers::Answer;
+pub use laws::limits_are;
 pub use limits::{GRAPH_LIMIT, SCRIPT_LIMIT};
 pub use statuses::Status;

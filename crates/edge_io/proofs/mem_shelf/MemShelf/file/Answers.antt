@@ -11,7 +11,8 @@ pub loop-key-init : goal.loop-key-init
 loop-key-init c =
     ap (λ (h : ShelfInMemory). get h.files c.args.name.now) (sym c.self.view_is)
     ∙ get-from_entries nat_list_cmp_total _ _
-    ∙ ap (λ es. find (slice_cmp nat_cmp) c.args.name.now (map (entry_of (λ v. v.items)) es)) (sym c.into_iter-key-iterator.ensures.into_iter_gives.0)
+    ∙ ap (λ es. find (slice_cmp nat_cmp) c.args.name.now (map (entry_of (λ v. v.items)) es))
+    (sym c.into_iter-key-iterator.ensures.into_iter_gives.0)
 
 pub returns-then-eq : goal.returns-then-eq
 returns-then-eq c = grind (arith, common_steps, is_eq-slice_cmp)
