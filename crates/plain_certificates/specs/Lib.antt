@@ -1,0 +1,17 @@
+pub mod Numbered
+pub mod Walks
+pub mod Paths
+pub mod Cuts
+pub mod Feasible
+pub mod Cheapest
+pub mod Pairings
+pub mod Means
+pub mod Laws
+pub mod Tables
+pub mod Pushes
+pub mod Rooms
+pub mod Totals
+pub mod Measures
+pub mod Forest
+pub mod Numbering
+pub mod Examples
