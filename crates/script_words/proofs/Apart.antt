@@ -1,5 +1,5 @@
 -- No tokens are two forms.
-use Rattle.std.proofs.Common.{◌≡◌, ℕ, zero, suc, ◌<◌, Bool, true, false, not, ◌&&◌, ◌||◌, inl, inr, List, [], ◌∷◌, length, get_or, refl, ap, sym, ◌∙◌, subst, arith}
+use Rattle.std.proofs.Common.{◌≡◌, ℕ, zero, suc, ◌<◌, Bool, true, false, not, ◌&&◌, inl, inr, List, [], ◌∷◌, length, get_or, refl, ap, sym, ◌∙◌, subst, arith}
 use Rattle.std.specs.List.{list_all}
 use Rattle.std.specs.Str.{bytes_eq}
 use Rattle.std.proofs.lemmas.Bool.{and_parts, cases_order}
@@ -11,20 +11,9 @@ use Rattle.script_words.specs.declared.forms.TheConstants.{FORMS}
 use Rattle.script_words.specs.Slots.{Slot, Word, fits, begins}
 use Rattle.script_words.specs.Forms.{shape}
 use Rattle.script_words.specs.Lines.{Matches}
+use Rattle.script_words.proofs.Clash.{differ, clash}
 use Rattle.script_words.proofs.Listed.{number, listed, number_within}
 use Rattle.script_words.proofs.Reach.{by_test}
-
--- Whether these are two different words.
-abbrev pub differ : Slot → Slot → Bool
-differ (Word v) (Word w) = not (bytes_eq v w)
-differ a b = false
-
--- Whether two forms have other lengths, or other words at one place.
-abbrev pub clash : List Slot → List Slot → Bool
-clash [] [] = false
-clash [] (b ∷ ys) = true
-clash (a ∷ xs) [] = true
-clash (a ∷ xs) (b ∷ ys) = differ a b || clash xs ys
 
 -- Bytes that test as equal are equal.
 pub same_bytes : (v w : List ℕ) → bytes_eq v w ≡ true → v ≡ w

@@ -1,5 +1,6 @@
 pub mod Powers
 pub mod Reach
+pub mod Clash
 pub mod Listed
 pub mod Farthest
 pub mod Apart
@@ -7,3 +8,4 @@ pub mod WrongAlone
 pub mod Amounts
 pub mod ValidForms
 pub mod Verdicts
+pub mod SomeColumn

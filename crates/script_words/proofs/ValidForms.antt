@@ -73,4 +73,8 @@ valid_form form.MinCost tokens matches =
     (optional (word_at tokens 2), optional (word_at tokens 3), optional (word_at tokens 5))
 valid_form form.MinCostInto tokens matches =
     (optional (word_at tokens 2), optional (word_at tokens 3), optional (word_at tokens 5))
+valid_form form.Simplex tokens matches =
+    (optional (word_at tokens 2), optional (word_at tokens 3), optional (word_at tokens 5))
+valid_form form.SimplexInto tokens matches =
+    (optional (word_at tokens 2), optional (word_at tokens 3), optional (word_at tokens 5))
 valid_form _ tokens matches = tt

@@ -1,5 +1,6 @@
 -- What holds of script lines.
-use Rattle.std.specs.Prelude.{◌≡◌, ℕ, List}
+use Rattle.std.specs.Prelude.{◌≡◌, ℕ, false, List}
+use Rattle.token_text.specs.Lines.{is_passed_over}
 use Rattle.script_words.specs.declared.commands.Command.{Command}
 use Rattle.script_words.specs.Lines.{Says, IsBad}
 
@@ -10,3 +11,8 @@ OneCommand = (line : List ℕ) (one other : Command) → Says line one → Says 
 -- A line goes wrong in one column at most.
 abbrev pub OneColumn : Type 0
 OneColumn = (line : List ℕ) (one other : ℕ) → IsBad line one → IsBad line other → one ≡ other
+
+-- A line that is neither passed over nor says a command goes wrong in some column.
+abbrev pub SomeColumn : Type 0
+SomeColumn = (line : List ℕ) → is_passed_over line ≡ false
+    → ((command : Command) → Says line command → ⊥) → (column : ℕ) × IsBad line column

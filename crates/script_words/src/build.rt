@@ -64,6 +64,8 @@ fn of_two_words(alloc: Global, form: Form, words: &[Token]) -> Result<Command, A
         Form::Unview => Command::Unview(first),
         Form::Nodes => Command::Nodes(first),
         Form::Arcs => Command::Arcs(first),
+        Form::Untie => Command::Untie(first),
+        Form::Attr => Command::Attr(first),
         Form::Save => Command::Save(first),
         _ => unreachable!(),
     })
@@ -93,6 +95,8 @@ fn of_three_words(alloc: Global, form: Form, words: &[Token]) -> Result<Command,
         Form::Out => Command::Out(first, second),
         Form::In => Command::In(first, second),
         Form::Match => Command::Match(first, second),
+        Form::MeanCycle => Command::MeanCycle(first, second, None),
+        Form::Tie => Command::Tie(first, sort_of(&second)),
         _ => unreachable!(),
     })
 }
@@ -123,6 +127,10 @@ fn of_four_words(alloc: Global, form: Form, words: &[Token]) -> Result<Command, 
         Form::ViewSplit => Command::View(first, LayerWord::Split, third),
         Form::Dijkstra => Command::Dijkstra(first, second, third),
         Form::Bellman => Command::Bellman(first, second, third),
+        Form::Heaviest => Command::Heaviest(first, second, third),
+        Form::Assign => Command::Assign(first, second, third),
+        Form::MeanCycleTime => Command::MeanCycle(first, second, Some(third)),
+        Form::Relabel => Command::Relabel(sort_of(&first), second, third),
         _ => unreachable!(),
     })
 }
@@ -181,6 +189,14 @@ fn of_six_words(alloc: Global, form: Form, words: &[Token]) -> Result<Command, A
             map_of(fifth),
             None,
         ),
+        Form::Simplex => Command::Simplex(
+            first,
+            map_of(second),
+            map_of(third),
+            fourth,
+            map_of(fifth),
+            None,
+        ),
         _ => unreachable!(),
     })
 }
@@ -223,6 +239,14 @@ fn of_eight_words(alloc: Global, form: Form, words: &[Token]) -> Result<Command,
     let seventh = text_at(alloc, words, 7)?;
     Ok(match form {
         Form::MinCostInto => Command::MinCost(
+            first,
+            map_of(second),
+            map_of(third),
+            fourth,
+            map_of(fifth),
+            Some(seventh),
+        ),
+        Form::SimplexInto => Command::Simplex(
             first,
             map_of(second),
             map_of(third),

@@ -92,6 +92,18 @@ pub enum Command {
     MaxFlow(Text, Text, Text, Text, Option<Text>),
     Circulate(Text, Option<Text>, Option<Text>, Option<Text>, Option<Text>),
     MinCost(Text, Option<Text>, Option<Text>, Text, Option<Text>, Option<Text>),
+    Simplex(Text, Option<Text>, Option<Text>, Text, Option<Text>, Option<Text>),
     Match(Text, Text),
+    Heaviest(Text, Text, Text),
+    Assign(Text, Text, Text),
+    /// The view, the lengths, and the times where they aren't 1.
+    MeanCycle(Text, Text, Option<Text>),
+    /// The attribute, and the sort of its item.
+    Tie(Text, ItemSort),
+    Untie(Text),
+    /// The line `attr`, which answers an attribute.
+    Attr(Text),
+    /// The sort, the old label and the new one.
+    Relabel(ItemSort, Text, Text),
     Save(Text),
 }

@@ -25,8 +25,8 @@ pub enum Place {
     Amount(u32, u32),
 }
 
-/// The forms of commands, in the order of the reference. A command has more forms than one where it has an
-/// optional word, or a word that says its kind.
+/// The forms of commands. A command has more forms than one where it has an optional word, or a word that says
+/// its kind.
 #[derive(Clone, Copy)]
 pub enum Form {
     AddNode,
@@ -88,12 +88,22 @@ pub enum Form {
     CirculateInto,
     MinCost,
     MinCostInto,
+    Simplex,
+    SimplexInto,
     Match,
+    Heaviest,
+    Assign,
+    MeanCycle,
+    MeanCycleTime,
+    Tie,
+    Untie,
+    Attr,
+    Relabel,
     Save,
 }
 
-/// All forms.
-pub const FORMS: [Form; 61] = [
+/// All forms, in the order of the reference.
+pub const FORMS: [Form; 71] = [
     Form::AddNode,
     Form::AddArc,
     Form::DelNode,
@@ -153,7 +163,17 @@ pub const FORMS: [Form; 61] = [
     Form::CirculateInto,
     Form::MinCost,
     Form::MinCostInto,
+    Form::Simplex,
+    Form::SimplexInto,
     Form::Match,
+    Form::Heaviest,
+    Form::Assign,
+    Form::MeanCycle,
+    Form::MeanCycleTime,
+    Form::Tie,
+    Form::Untie,
+    Form::Attr,
+    Form::Relabel,
     Form::Save,
 ];
 
@@ -291,7 +311,33 @@ pub fn places(form: Form) -> &'static [Place]
             Word(b"into"),
             Name,
         ],
+        Form::Simplex => &[
+            Word(b"simplex"),
+            Name,
+            MapOrDash,
+            MapOrDash,
+            Name,
+            MapOrDash,
+        ],
+        Form::SimplexInto => &[
+            Word(b"simplex"),
+            Name,
+            MapOrDash,
+            MapOrDash,
+            Name,
+            MapOrDash,
+            Word(b"into"),
+            Name,
+        ],
         Form::Match => &[Word(b"match"), Name, Name],
+        Form::Heaviest => &[Word(b"heaviest"), Name, Name, Name],
+        Form::Assign => &[Word(b"assign"), Name, Name, Name],
+        Form::MeanCycle => &[Word(b"meancycle"), Name, Name],
+        Form::MeanCycleTime => &[Word(b"meancycle"), Name, Name, Name],
+        Form::Tie => &[Word(b"tie"), Name, Sort],
+        Form::Untie => &[Word(b"untie"), Name],
+        Form::Attr => &[Word(b"attr"), Name],
+        Form::Relabel => &[Word(b"relabel"), Sort, Name, Name],
         Form::Save => &[Word(b"save"), Name],
     }
 }

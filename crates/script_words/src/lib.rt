@@ -9,5 +9,5 @@ mod lines;
 mod words;
 
 pub use commands::{Command, Direction, GuardWord, LayerWord, MapType};
-pub use laws::{one_column, one_command};
+pub use laws::{one_column, one_command, some_column};
 pub use lines::{LineFault, read_line};
