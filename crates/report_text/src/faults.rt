@@ -42,6 +42,8 @@ pub enum Fault {
     NoGuard(Text),
     /// The view or the index of this name reads it.
     InUse(Text),
+    /// The base takes no erasure and no move: the first word of the command.
+    NoErase(Text),
 }
 
 /// Why a command isn't done.

@@ -2,6 +2,7 @@
 
 ghost use Rattle.std.specs.Prelude.{◌≡◌, ◌++◌, IfOk, OnOk};
 ghost use Rattle.std.specs.List.{flat_map};
+ghost use Rattle.report_text.specs.Lines as lines;
 ghost use Rattle.report_text.specs.Texts as texts;
 
 use crate::faults::Fault;
@@ -43,12 +44,13 @@ fn title(fault: &Fault) -> &'static [u8]
         Fault::TooDeep(_) => b"14 TooDeep",
         Fault::NoGuard(_) => b"15 NoGuard",
         Fault::InUse(_) => b"16 InUse",
+        Fault::NoErase(_) => b"17 NoErase",
     }
 }
 
 // Puts what the fault keeps to the text.
 fn push_kept(out: &mut Vec<u8>, fault: &Fault) -> Result<(), AllocError>
-    ensures { OnOk result (out.new.items ≡ out.old.items ++ flat_map texts.word (texts.kept fault.now)) }
+    ensures { OnOk result (out.new.items ≡ out.old.items ++ flat_map lines.word (texts.kept fault.now)) }
 {
     match fault {
         Fault::BadLine(column) => push_number(out, *column as u64),
@@ -75,6 +77,7 @@ fn push_kept(out: &mut Vec<u8>, fault: &Fault) -> Result<(), AllocError>
         | Fault::Crossed(name)
         | Fault::NotBipartite(name)
         | Fault::NoGuard(name)
-        | Fault::InUse(name) => push_name(out, name),
+        | Fault::InUse(name)
+        | Fault::NoErase(name) => push_name(out, name),
     }
 }
