@@ -1,0 +1,4 @@
+pub mod Seats
+pub mod Lending
+pub mod Leaving
+pub mod Laws
