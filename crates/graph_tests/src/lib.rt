@@ -1,0 +1,13 @@
+//! Tests of the layers that alter and show a digraph, so that their own crates are proved once.
+#![tactic(auto)]
+
+#[cfg(test)]
+mod digraph_limits;
+#[cfg(test)]
+mod digraph_tables;
+mod listing;
+mod steps;
+mod undone;
+
+pub use listing::listed;
+pub use steps::{Step, take};
