@@ -5,9 +5,13 @@
 mod digraph_limits;
 #[cfg(test)]
 mod digraph_tables;
+mod guarded;
+#[cfg(test)]
+mod guards;
 mod listing;
 mod steps;
 mod undone;
 
+pub use guarded::Guarded;
 pub use listing::listed;
 pub use steps::{Step, take};
