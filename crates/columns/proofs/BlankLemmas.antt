@@ -65,3 +65,8 @@ module _ {V : Type 0} (d : V) (ls : List Bool) (vs : List V) (blank : AreBlank d
       where
         true-false : true ≡ false → ⊥
         true-false q = cc
+
+pub blank-pushed : {V : Type 0} (d : V) (b : Bool) (ls : List Bool) (vs : List V)
+    → AreBlank d ls vs → AreBlank d ls (if b then vs ++ d ∷ [] else vs)
+blank-pushed d true ls vs blank = blank-push d ls vs blank
+blank-pushed d false ls vs blank = blank

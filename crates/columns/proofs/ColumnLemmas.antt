@@ -215,3 +215,10 @@ pub read-value : {X : Type 0} (i : ℕ) (x d : X) (xs : List X) → i < length x
 read-value i x d [] l e = absurd (omega (arith, l))
 read-value zero x d (y ∷ ys) l e = sym e
 read-value (suc i) x d (y ∷ ys) l e = read-value i x d ys (omega (arith, l)) e
+
+-- what a push that may fail leaves
+pub pushed-values : {V : Type 0} (v : V) (b : Bool) (ls : List Bool) (vs : List V)
+    → length ls ≤ length vs
+    → slots_of 0 ls (if b then vs ++ v ∷ [] else vs) ≡ slots_of 0 ls vs
+pushed-values v true ls vs l = more-values 0 ls vs (v ∷ []) l
+pushed-values v false ls vs l = refl

@@ -1,0 +1,2 @@
+pub mod BlankValues
+pub mod LeastSlots

@@ -1,0 +1,4 @@
+pub mod Entries
+pub mod LeastEntry
+pub mod Views
+pub mod Sound
