@@ -1,0 +1,10 @@
+pub mod DegreeLemmas
+pub mod PlaceLemmas
+pub mod TieLemmas
+pub mod LabelLemmas
+pub mod StepLemmas
+pub mod BuildLemmas
+pub mod RefLemmas
+pub mod RefSteps
+pub mod TrueLemmas
+pub mod TiedLemmas

@@ -1,0 +1,13 @@
+pub mod Counted
+pub mod DegreeViews
+pub mod Expanding
+pub mod DegreeSound
+pub mod Labels
+pub mod LabelFacts
+pub mod RefViews
+pub mod RefSound
+pub mod Trues
+pub mod TrueViews
+pub mod TieEntries
+pub mod TieViews
+pub mod TieSound
