@@ -110,7 +110,8 @@ side_word false = codes "under"
 -- d NAME DIST ARC, with - for the arc of the start; or u NAME
 abbrev pub path_text : PathLine → List ℕ
 path_text (path.Reached node dist arc) =
-    line_text (codes "d") (written node ∷ signed_decimal dist ∷ option_map_or written arc (codes "-") ∷ [])
+    line_text (codes "d")
+    (written node ∷ signed_decimal dist ∷ option_map_or written arc (codes "-") ∷ [])
 path_text (path.Unreached node) = line_text (codes "u") (written node ∷ [])
 
 -- Whether there is a path to the node.

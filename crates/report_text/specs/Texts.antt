@@ -38,7 +38,8 @@ title (fault.NoGuard kind) = codes "15 NoGuard"
 title (fault.InUse user) = codes "16 InUse"
 title (fault.NoErase command) = codes "17 NoErase"
 
--- The words that a fault keeps: names and tokens as they are written, and numbers in decimal digits.
+-- The words that a fault keeps: names and tokens as they are written, and numbers in decimal
+-- digits.
 abbrev pub kept : Fault → List (List ℕ)
 kept (fault.BadLine column) = decimal column ∷ []
 kept (fault.Unknown name) = written name ∷ []

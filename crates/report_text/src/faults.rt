@@ -24,7 +24,8 @@ pub enum Fault {
     BadValue(Text, Text),
     /// The map or the view of this name is of another type than is needed.
     WrongType(Text),
-    /// At this item stands a value whose magnitude is above [`VALUE_LIMIT`](base_items::VALUE_LIMIT).
+    /// At this item stands a value whose magnitude is above
+    /// [`VALUE_LIMIT`](base_items::VALUE_LIMIT).
     OutOfRange(Text, i128),
     /// Both nodes are this one.
     SameNode(Text),

@@ -16,7 +16,8 @@ pub trait Words {
 
     /// Puts the words to the text, each behind a blank.
     fn push_words(&self, out: &mut Vec<u8>) -> Result<(), AllocError>
-        ensures { OnOk result (out.new.items ≡ out.old.items ++ flat_map lines.word (words self.now)) };
+        ensures { OnOk result (out.new.items
+            ≡ out.old.items ++ flat_map lines.word (words self.now)) };
 }
 
 /// Puts a line with this title to the text.
@@ -41,7 +42,8 @@ pub fn push_lines<W: Words>(out: &mut Vec<u8>, title: &[u8], values: &[W]) -> Re
     Ok(())
 }
 
-/// Puts a line for each of the values, and then one with another title and the words of the last value.
+/// Puts a line for each of the values, and then one with another title and the words of the last
+/// value.
 pub fn push_block<W: Words, E: Words>(
     out: &mut Vec<u8>,
     title: &[u8],
@@ -50,7 +52,8 @@ pub fn push_block<W: Words, E: Words>(
     last: &E,
 ) -> Result<(), AllocError>
     ensures { OnOk result (out.new.items ≡ out.old.items
-        ++ lines.lines_text title.now W.words values.now ++ lines.line_text end.now (E.words last.now)) }
+        ++ lines.lines_text title.now W.words values.now
+        ++ lines.line_text end.now (E.words last.now)) }
 {
     push_lines(out, title, values)?;
     push_line(out, end, last)

@@ -14,7 +14,8 @@ use token_text::Text;
 
 /// Puts the line of each node, and the number of those to which there is a path.
 pub fn push_paths(out: &mut Vec<u8>, paths: &[PathLine]) -> Result<(), AllocError>
-    ensures { OnOk result (out.new.items ≡ out.old.items ++ texts.reply_text (Reply.Paths paths.now)) }
+    ensures { OnOk result (out.new.items
+        ≡ out.old.items ++ texts.reply_text (Reply.Paths paths.now)) }
 {
     for path in paths {
         push_path(out, path)?;

@@ -9,8 +9,8 @@ use crate::faults::Fault;
 use crate::words::{push_name, push_number, push_signed, push_word, sort_name};
 use std::alloc::{AllocError, Global};
 
-/// The text that refuses the line with this number, counted from 1: `! LINE NUMBER NAME`, and what the fault
-/// keeps, names and tokens as they are written.
+/// The text that refuses the line with this number, counted from 1: `! LINE NUMBER NAME`, and what
+/// the fault keeps, names and tokens as they are written.
 pub fn fault_bytes(alloc: Global, line: u64, fault: &Fault) -> Result<Vec<u8>, AllocError>
     ensures { IfOk result (λ text. text.items ≡ texts.fault_text line fault.now) }
 {
@@ -50,7 +50,8 @@ fn title(fault: &Fault) -> &'static [u8]
 
 // Puts what the fault keeps to the text.
 fn push_kept(out: &mut Vec<u8>, fault: &Fault) -> Result<(), AllocError>
-    ensures { OnOk result (out.new.items ≡ out.old.items ++ flat_map lines.word (texts.kept fault.now)) }
+    ensures { OnOk result (out.new.items
+        ≡ out.old.items ++ flat_map lines.word (texts.kept fault.now)) }
 {
     match fault {
         Fault::BadLine(column) => push_number(out, *column as u64),

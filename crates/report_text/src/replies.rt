@@ -3,7 +3,8 @@
 use base_items::{ItemSort, List};
 use token_text::Text;
 
-/// A node in a listing: its id, which is below [`MAX_NODES`](base_items::MAX_NODES) at the base, and its name.
+/// A node in a listing: its id, which is below [`MAX_NODES`](base_items::MAX_NODES) at the base,
+/// and its name.
 #[derive(Drop)]
 pub struct NodeLine {
     pub id: u32,
@@ -33,7 +34,8 @@ pub struct PotentialLine {
     pub pi: i64,
 }
 
-/// A node with its potential beside a cycle of least mean; such potentials stay below 2^116 in magnitude.
+/// A node with its potential beside a cycle of least mean; such potentials stay below 2^116 in
+/// magnitude.
 #[derive(Drop)]
 pub struct MeanLine {
     pub node: Text,
@@ -51,7 +53,8 @@ pub struct PairLine {
 /// A node as shortest paths reach it.
 #[derive(Drop)]
 pub enum PathLine {
-    /// Its distance from the start, and the last arc on a shortest path to it, which the start lacks.
+    /// Its distance from the start, and the last arc on a shortest path to it, which the start
+    /// lacks.
     Reached {
         node: Text,
         dist: i64,
@@ -97,8 +100,8 @@ pub enum SnapLine {
     Stale { name: Text },
 }
 
-/// What an accepted command answers. Lists go in the order in which their lines are printed. A number that a line
-/// prints and that is the length of a list is no field.
+/// What an accepted command answers. Lists go in the order in which their lines are printed. A
+/// number that a line prints and that is the length of a list is no field.
 #[derive(Drop)]
 pub enum Reply {
     /// Nothing.
@@ -133,14 +136,15 @@ pub enum Reply {
     MaxFlow(List<FlowLine>, List<Text>, i64),
     /// A flow within the bounds that meets the supplies.
     Circulation(List<FlowLine>),
-    /// A set of nodes that shows that there is no such flow: whether it supplies too much (or else too little), its
-    /// supply, and the limit that this passes.
+    /// A set of nodes that shows that there is no such flow: whether it supplies too much (or else
+    /// too little), its supply, and the limit that this passes.
     Barrier(List<Text>, bool, i128, i128),
     /// A cheapest flow, potentials that show it, and its cost.
     Cheapest(List<FlowLine>, List<PotentialLine>, i128),
     /// A flow, and a cycle without bounds along which it gets ever cheaper, by this cost a unit.
     FreeCycle(List<FlowLine>, List<ArcLine>, i128),
-    /// A largest pairing, and a set of left nodes with so few neighbours that there is no larger one.
+    /// A largest pairing, and a set of left nodes with so few neighbours that there is no larger
+    /// one.
     Match(List<PairLine>, List<Text>),
     /// A heaviest pairing, duals that show it, and its weight.
     Heavy(List<PairLine>, List<PotentialLine>, i128),

@@ -11,8 +11,8 @@ use crate::words::{push_name, push_signed, push_word, side_word};
 use std::alloc::{AllocError, Global};
 use token_text::Text;
 
-/// The text of the reply: a line for each item listed, and one that ends them, with their number or with what was
-/// found. The text of Quiet is empty.
+/// The text of the reply: a line for each item listed, and one that ends them, with their number or
+/// with what was found. The text of Quiet is empty.
 pub fn reply_bytes(alloc: Global, reply: &Reply) -> Result<Vec<u8>, AllocError>
     ensures { IfOk result (λ text. text.items ≡ texts.reply_text reply.now) }
 {
@@ -87,7 +87,8 @@ fn push_reply(out: &mut Vec<u8>, reply: &Reply) -> Result<(), AllocError>
 
 // Puts the line of the least value of a map.
 fn push_least(out: &mut Vec<u8>, least: &Option<(i64, Text)>) -> Result<(), AllocError>
-    ensures { OnOk result (out.new.items ≡ out.old.items ++ texts.reply_text (Reply.Least least.now)) }
+    ensures { OnOk result (out.new.items
+        ≡ out.old.items ++ texts.reply_text (Reply.Least least.now)) }
 {
     match least {
         None => out.extend_from_slice(b"least -\n"),
@@ -121,7 +122,8 @@ fn push_mean(
     time: i64,
 ) -> Result<(), AllocError>
     ensures { OnOk result (out.new.items ≡ out.old.items
-        ++ lines.lines_text (codes "p") lines.mean_words potentials.now ++ texts.mean_text total time) }
+        ++ lines.lines_text (codes "p") lines.mean_words potentials.now
+        ++ texts.mean_text total time) }
 {
     push_lines(out, b"p", potentials)?;
     push_ratio(out, total, time)

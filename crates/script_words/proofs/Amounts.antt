@@ -22,7 +22,8 @@ fits_at (slot ∷ slots) (token ∷ tokens) zero first within =
 fits_at (slot ∷ slots) (token ∷ tokens) (suc place) first within =
     fits_at slots tokens place (and_parts (fits slot token.bytes) (begins slots tokens) first).1 (omega arith)
 
--- What `numbered` makes of a form of five words that ends with an amount is the command of the form.
+-- What `numbered` makes of a form of five words that ends with an amount is the command of the
+-- form.
 pub guard_said : (form known : Form) (words : List Token) (low high : ℕ) (sort : ItemSort) (kind : GuardWord)
     (name number : List ℕ) (said : Command) → form ≡ known → Matches form words
     → length (shape known).slots ≡ 5 → get_or (shape known).slots 4 Name ≡ Amount low high

@@ -21,7 +21,8 @@ form_at k = get_or FORMS k form.AddNode
 abbrev pub slots_at : ℕ → List Slot
 slots_at k = (shape (form_at k)).slots
 
--- Some form goes on so far with these tokens, and of the first forms of the table none goes on farther.
+-- Some form goes on so far with these tokens, and of the first forms of the table none goes on
+-- farther.
 pub record Farthest (tokens : List Token) (i most : ℕ) : Type 0 where
   pub within : most ≤ length tokens
   pub reached : GoesOn (take most tokens)

@@ -45,7 +45,8 @@ abbrev no_token : Token
 no_token = record { start = 0; end = 0; bytes = [] }
 
 -- The token at a place of a list, whatever stands for a lack.
-at_place : (tokens : List Token) (n : ℕ) (d e : Token) → n < length tokens → get_or tokens n d ≡ get_or tokens n e
+at_place : (tokens : List Token) (n : ℕ) (d e : Token) → n < length tokens
+    → get_or tokens n d ≡ get_or tokens n e
 at_place [] n d e h = absurd (omega arith)
 at_place (t ∷ ts) zero d e h = refl
 at_place (t ∷ ts) (suc n) d e h = at_place ts n d e (omega arith)
@@ -53,7 +54,8 @@ at_place (t ∷ ts) (suc n) d e h = at_place ts n d e (omega arith)
 module _ (line : List ℕ) (read : is_passed_over line ≡ false)
     (unsaid : (command : Command) → Says line command → ⊥) (tokens : List Token) where
   -- A line whose tokens go on.
-  going : (fault : Option ℕ) → HasTokens line 0 tokens fault → GoesOn tokens → (column : ℕ) × IsBad line column
+  going : (fault : Option ℕ) → HasTokens line 0 tokens fault → GoesOn tokens
+      → (column : ℕ) × IsBad line column
   going (Some place) has goes = (place + 1, unread_token line tokens read place has goes)
   going None has goes = (
     length line + 1,

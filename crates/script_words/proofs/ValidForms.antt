@@ -19,7 +19,8 @@ not_true false e = refl
 
 -- A map that may be absent is valid.
 optional : (bytes : List ℕ) → IsOptional (map_of bytes)
-optional bytes = by_test (is_dash bytes) (IsOptional (map_of bytes)) (λ dash. rw dash tt) (λ name. rw name name)
+optional bytes =
+    by_test (is_dash bytes) (IsOptional (map_of bytes)) (λ dash. rw dash tt) (λ name. rw name name)
 
 -- The word at a place of a form fits there.
 fit : (known : Form) (tokens : List Token) (place : ℕ)
@@ -52,16 +53,20 @@ ranged known tokens low high matches five last =
     within low high (word_at tokens 4) (subst P last (fit known tokens 4 matches (omega arith)))
 
 -- The command of the words that match a form is valid.
-pub valid_form : (known : Form) (tokens : List Token) → Matches known tokens → IsValid (command_of known tokens)
+pub valid_form : (known : Form) (tokens : List Token) → Matches known tokens
+    → IsValid (command_of known tokens)
 valid_form form.NodeMap tokens matches = not_true _ (fit form.NodeMap tokens 1 matches (lit< tt))
 valid_form form.ArcMap tokens matches = not_true _ (fit form.ArcMap tokens 1 matches (lit< tt))
 valid_form form.Degree tokens matches = not_true _ (fit form.Degree tokens 1 matches (lit< tt))
 valid_form form.Trues tokens matches = not_true _ (fit form.Trues tokens 2 matches (lit< tt))
-valid_form form.NodeQuota tokens matches = (ranged form.NodeQuota tokens 0 4194304 matches refl refl).below
+valid_form form.NodeQuota tokens matches =
+    (ranged form.NodeQuota tokens 0 4194304 matches refl refl).below
 valid_form form.NodeFuse tokens matches =
     let range = ranged form.NodeFuse tokens 1 4194304 matches refl refl in (range.above, range.below)
-valid_form form.ArcQuota tokens matches = (ranged form.ArcQuota tokens 0 4194304 matches refl refl).below
-valid_form form.ArcOutCap tokens matches = (ranged form.ArcOutCap tokens 0 4194304 matches refl refl).below
+valid_form form.ArcQuota tokens matches =
+    (ranged form.ArcQuota tokens 0 4194304 matches refl refl).below
+valid_form form.ArcOutCap tokens matches =
+    (ranged form.ArcOutCap tokens 0 4194304 matches refl refl).below
 valid_form form.ArcFuse tokens matches =
     let range = ranged form.ArcFuse tokens 1 4194304 matches refl refl in (range.above, range.below)
 valid_form form.ViewSub tokens matches = (optional (word_at tokens 4), optional (word_at tokens 5))

@@ -24,8 +24,8 @@ front_goes front more goes = (goes.0, begins_front (shape goes.0).slots front mo
 pub take_goes : (tokens : List Token) (n : ℕ) → GoesOn tokens → GoesOn (take n tokens)
 take_goes tokens n goes = front_goes (take n tokens) (drop n tokens) (rw take-append-drop goes)
 
--- Of a fact that holds of each front of what it holds of: one token at most is the first with which it
--- doesn't hold.
+-- Of a fact that holds of each front of what it holds of: one token at most is the first with which
+-- it doesn't hold.
 split_alone : (P : List Token → Type 0) → ((front more : List Token) → P (front ++ more) → P front)
     → (front other rest other_rest : List Token) (one two : Token)
     → front ++ one ∷ rest ≡ other ++ two ∷ other_rest

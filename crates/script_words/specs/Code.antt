@@ -24,4 +24,5 @@ reach (slot ∷ slots) (token ∷ tokens) = cond (fits slot token.bytes) (reach 
 
 -- Whether all the tokens go on, and are as many as the places.
 abbrev pub is_whole : List Slot → List Token → Bool
-is_whole slots tokens = nat_eq (length slots) (length tokens) && nat_eq (reach slots tokens) (length tokens)
+is_whole slots tokens =
+    nat_eq (length slots) (length tokens) && nat_eq (reach slots tokens) (length tokens)

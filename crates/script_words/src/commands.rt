@@ -41,8 +41,8 @@ pub enum LayerWord {
     Residual(Text, Text),
 }
 
-/// What a line of a script says. A variant has the words of its form in their order; an option is None where
-/// an optional word is absent, or where a map that may be absent is given as `-`.
+/// What a line of a script says. A variant has the words of its form in their order; an option is
+/// None where an optional word is absent, or where a map that may be absent is given as `-`.
 #[derive(Drop)]
 pub enum Command {
     AddNode(Text),

@@ -25,8 +25,8 @@ pub enum Place {
     Amount(u32, u32),
 }
 
-/// The forms of commands. A command has more forms than one where it has an optional word, or a word that says
-/// its kind.
+/// The forms of commands. A command has more forms than one where it has an optional word, or a
+/// word that says its kind.
 #[derive(Clone, Copy)]
 pub enum Form {
     AddNode,

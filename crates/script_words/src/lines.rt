@@ -20,9 +20,10 @@ use token_text::{Token, is_passed_over, read_tokens};
 /// Why a line was read as no command.
 #[derive(Clone, Copy, Debug, PartialEq, Eq)]
 pub enum LineFault {
-    /// It says none, and goes wrong in this column, counted in bytes from 1: at the open quote or the bad
-    /// backslash of a token that can't be read, or at the first byte of the first token with which no form
-    /// goes on, whichever token comes first; else, where tokens are missing, behind its last byte.
+    /// It says none, and goes wrong in this column, counted in bytes from 1: at the open quote or
+    /// the bad backslash of a token that can't be read, or at the first byte of the first token
+    /// with which no form goes on, whichever token comes first; else, where tokens are missing,
+    /// behind its last byte.
     Bad(usize),
     /// Memory ran out.
     Memory,
@@ -30,7 +31,8 @@ pub enum LineFault {
 
 /// The command that the line says. None for a line that is blank or a comment.
 ///
-/// A line is blank where it has blanks only, and a comment where its first byte that is no blank is `#`.
+/// A line is blank where it has blanks only, and a comment where its first byte that is no blank is
+/// `#`.
 pub fn read_line(alloc: Global, line: &[u8]) -> Result<Option<Command>, LineFault>
     ensures passed_over { IfOk result (λ found. IfNone found (is_passed_over line.now ≡ true)) }
     ensures said { IfOk result (λ found. IfSome found (Says line.now)) }
