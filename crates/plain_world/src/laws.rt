@@ -1,0 +1,30 @@
+//! Laws of the plain machine. A function here has no code: its contract is the law.
+
+ghost use Rattle.plain_world.specs.Laws as laws;
+ghost use Rattle.plain_world.specs.Order as order;
+
+/// The fault of a demand has the number of the demand in the order of faults.
+pub fn breaches_are_ranked()
+    ensures { order.BreachesAreRanked }
+{}
+
+/// The demands of a command stand in the order of their faults, so the first that isn't met has the
+/// fault that comes first.
+pub fn demands_are_ordered()
+    ensures { order.DemandsAreOrdered }
+{}
+
+/// The item that has a label is the one that is found by it.
+pub fn items_are_named()
+    ensures { laws.ItemsAreNamed }
+{}
+
+/// Where no item has a label, none is found by it.
+pub fn unused_names_are_free()
+    ensures { laws.UnusedNamesAreFree }
+{}
+
+/// The digraph of a world goes by its plain steps alone.
+pub fn altered_graphs_follow()
+    ensures { laws.AlteredGraphsFollow }
+{}

@@ -1,0 +1,14 @@
+//! The plain world: a digraph with all that is attached to it, and one step of it.
+//!
+//! `specs/` has the world, what commands demand of it, why they are refused, what they do and what
+//! they answer. The code here is the one type that they name, and laws.
+#![tactic(auto)]
+
+mod answers;
+mod laws;
+
+pub use answers::Answer;
+pub use laws::{
+    altered_graphs_follow, breaches_are_ranked, demands_are_ordered, items_are_named,
+    unused_names_are_free,
+};
