@@ -1,3 +1,4 @@
 pub mod Told
 pub mod Back
 pub mod Guarding
+pub mod MoodySeats

@@ -2,6 +2,8 @@
 #![tactic(auto)]
 
 #[cfg(test)]
+mod chains;
+#[cfg(test)]
 mod digraph_limits;
 #[cfg(test)]
 mod digraph_tables;
