@@ -2,11 +2,21 @@
 #![tactic(auto)]
 
 #[cfg(test)]
+mod bad_lines;
+#[cfg(test)]
+mod command_parts;
+#[cfg(test)]
 mod graph_files;
 #[cfg(test)]
 mod lines_and_labels;
 #[cfg(test)]
-mod report_texts;
+mod refusal_texts;
+#[cfg(test)]
+mod reply_lines;
+#[cfg(test)]
+mod reply_listings;
+#[cfg(test)]
+mod reply_queries;
 #[cfg(test)]
 mod script_lines;
 #[cfg(test)]

@@ -1,13 +1,13 @@
-//! The texts of refusals and of replies.
+//! The texts of refusals.
 
-use base_items::{ItemSort, List};
-use report_text::{ArcLine, Fault, NodeLine, Reply, fault_bytes, reply_bytes};
+use base_items::ItemSort;
+use report_text::{Fault, fault_bytes};
 use std::alloc::{AllocError, Global};
 use std::test::Fail;
 use token_text::{Text, copy_text};
 
 // The faults that keep one name, each with the name `b c`.
-fn named_faults(alloc: Global) -> Result<[(Fault, &'static [u8]); 11], AllocError> {
+fn named_faults(alloc: Global) -> Result<[(Fault, &'static [u8]); 12], AllocError> {
     let name = || copy_text(alloc, b"b c");
     Ok([
         (Fault::Unknown(name()?), b"! 7 2 Unknown \"b c\"\n"),
@@ -24,6 +24,7 @@ fn named_faults(alloc: Global) -> Result<[(Fault, &'static [u8]); 11], AllocErro
         ),
         (Fault::NoGuard(name()?), b"! 7 15 NoGuard \"b c\"\n"),
         (Fault::InUse(name()?), b"! 7 16 InUse \"b c\"\n"),
+        (Fault::NoErase(name()?), b"! 7 17 NoErase \"b c\"\n"),
     ])
 }
 
@@ -42,7 +43,7 @@ fn word(alloc: Global, bytes: &[u8]) -> Result<Text, AllocError> {
 }
 
 // The faults that keep something else.
-fn other_faults(alloc: Global) -> Result<[(Fault, &'static [u8]); 7], AllocError> {
+fn other_faults(alloc: Global) -> Result<[(Fault, &'static [u8]); 10], AllocError> {
     let token = word(alloc, b"9223372036854775808")?;
     Ok([
         (Fault::BadLine(9), b"! 1 1 BadLine 9\n"),
@@ -66,7 +67,16 @@ fn other_faults(alloc: Global) -> Result<[(Fault, &'static [u8]); 7], AllocError
             Fault::Full(ItemSort::Arc, 4_194_304),
             b"! 1 13 Full arcs 4194304\n",
         ),
+        (
+            Fault::OutOfRange(word(alloc, b"a")?, i128::MAX),
+            b"! 1 8 OutOfRange a 170141183460469231731687303715884105727\n",
+        ),
+        (
+            Fault::OutOfRange(word(alloc, b"-")?, i128::MIN),
+            b"! 1 8 OutOfRange - -170141183460469231731687303715884105728\n",
+        ),
         (Fault::TooDeep(8), b"! 1 14 TooDeep 8\n"),
+        (Fault::TooDeep(0), b"! 1 14 TooDeep 0\n"),
     ])
 }
 
@@ -79,53 +89,10 @@ fn refuses_lines(rt: HostRuntime) -> Result<(), Fail> {
     Ok(())
 }
 
-// A listing of two nodes.
-fn nodes(alloc: Global) -> Result<Reply, AllocError> {
-    let mut lines = Vec::new(alloc);
-    lines.push(NodeLine {
-        id: 1,
-        name: word(alloc, b"")?,
-    })?;
-    lines.push(NodeLine {
-        id: 0,
-        name: word(alloc, b"#x")?,
-    })?;
-    Ok(Reply::Nodes(List::from_vec(lines)))
-}
-
-// A listing of one arc.
-fn arcs(alloc: Global) -> Result<Reply, AllocError> {
-    let mut lines = Vec::new(alloc);
-    lines.push(ArcLine {
-        id: 0,
-        name: word(alloc, b"x y")?,
-        from: word(alloc, b"a")?,
-        to: word(alloc, b"b")?,
-    })?;
-    Ok(Reply::Arcs(List::from_vec(lines)))
-}
-
-// A file of ten bytes that was stored.
-fn save(alloc: Global) -> Result<Reply, AllocError> {
-    let bytes = Vec::from_slice(alloc, b"@nodes\nl\t\n")?;
-    Ok(Reply::Save(word(alloc, b"out.lgf")?, List::from_vec(bytes)))
-}
-
 #[test]
-fn answers_lines(rt: HostRuntime) -> Result<(), Fail> {
-    let none = reply_bytes(rt.alloc(), &Reply::Quiet)?;
-    assert!(rt; none.is_empty());
-    let listed = reply_bytes(rt.alloc(), &nodes(rt.alloc())?)?;
-    assert_eq!(rt;
-        listed.as_slice(),
-        b"n 1 \"\"\nn 0 \"#x\"\nnodes 2\n".as_slice()
-    );
-    let linked = reply_bytes(rt.alloc(), &arcs(rt.alloc())?)?;
-    assert_eq!(rt; linked.as_slice(), b"a 0 \"x y\" a b\narcs 1\n".as_slice());
-    let empty = Reply::Nodes(List::from_vec(Vec::new(rt.alloc())));
-    let counted = reply_bytes(rt.alloc(), &empty)?;
-    assert_eq!(rt; counted.as_slice(), b"nodes 0\n".as_slice());
-    let saved = reply_bytes(rt.alloc(), &save(rt.alloc())?)?;
-    assert_eq!(rt; saved.as_slice(), b"saved 10\n".as_slice());
+fn refuses_far_lines(rt: HostRuntime) -> Result<(), Fail> {
+    let text = fault_bytes(rt.alloc(), u64::MAX, &Fault::BadLine(usize::MAX))?;
+    let wanted = b"! 18446744073709551615 1 BadLine 18446744073709551615\n";
+    assert_eq!(rt; text.as_slice(), wanted.as_slice());
     Ok(())
 }
