@@ -18,12 +18,14 @@ on_err (Ok x) p = tt
 on_err (Err y) p = p
 
 -- What follows from two facts on an error.
-pub by_both : {T E A B P : Type 0} (r : Result T E) → (A → B → P) → OnErr r A → OnErr r B → OnErr r P
+pub by_both : {T E A B P : Type 0} (r : Result T E) → (A → B → P) → OnErr r A → OnErr r B
+    → OnErr r P
 by_both (Ok x) f a b = tt
 by_both (Err y) f a b = f a b
 
 -- What is said of the value, at one.
-pub at_some : {T : Type 0} (P : T → Type 0) (found : Option T) (x : T) → found ≡ Some x → IfSome found P → P x
+pub at_some : {T : Type 0} (P : T → Type 0) (found : Option T) (x : T) → found ≡ Some x
+    → IfSome found P → P x
 at_some P None x e p = absurd (cc)
 at_some P (Some y) x e p = let same : y ≡ x = cc in subst P same p
 

@@ -9,7 +9,7 @@ use Rattle.token_text.specs.Lines.{is_passed_over}
 use Rattle.report_text.specs.declared.replies.Reply.TheVariants as replies
 use Rattle.plain_machine.specs.World.{World}
 use Rattle.plain_machine.specs.declared.answers.Answer.{Answer}
-use Rattle.plain_machine.specs.declared.answers.Answer.TheVariants.{Answered, Refused}
+use Rattle.plain_machine.specs.declared.answers.Answer.TheVariants.{Answered}
 use Rattle.plain_machine.specs.declared.statuses.Status.TheVariants as statuses
 use Rattle.plain_machine.specs.Steps.{Answers}
 use Rattle.plain_machine.specs.Texts.{report_of, answer_text, is_refused, has_refusal, Saved, saves_of, all_saves, overwritten}
@@ -30,25 +30,30 @@ at_false true P Q e q = absurd (cc)
 at_false false P Q e q = q
 
 -- From one choice to another.
-by_case : (b : Bool) (P Q P' Q' : Type 0) → MatchBool b P Q → (P → P') → (Q → Q') → MatchBool b P' Q'
+by_case : (b : Bool) (P Q P' Q' : Type 0) → MatchBool b P Q → (P → P') → (Q → Q')
+    → MatchBool b P' Q'
 by_case true P Q P' Q' h f g = f h
 by_case false P Q P' Q' h f g = g h
 
 -- An answer at the head of a run.
 abbrev Heads : World → ℕ → List ℕ → List (List ℕ) → List (ℕ × Answer) → World → Type 0
 Heads world number line lines answers later =
-    (answer : Answer) × (others : List (ℕ × Answer)) × (mid : World) × (answers ≡ (number, answer) ∷ others)
+    (answer : Answer) × (others : List (ℕ × Answer)) × (mid : World)
+    × (answers ≡ (number, answer) ∷ others)
     × Answers world line answer mid × Run mid (number + 1) lines others later
 
 -- One run after another.
-run_on : (world : World) (number next : ℕ) (lines more : List (List ℕ)) (answers others : List (ℕ × Answer)) (mid later : World)
-    → next ≡ number + length lines → Run world number lines answers mid → Run mid next more others later
+run_on : (world : World) (number next : ℕ) (lines more : List (List ℕ))
+    (answers others : List (ℕ × Answer)) (mid later : World)
+    → next ≡ number + length lines → Run world number lines answers mid
+    → Run mid next more others later
     → Run world number (lines ++ more) (answers ++ others) later
 run_on world number next [] more answers others mid later at h k =
     let here = subst (λ n. Run mid n more others later) (at ∙ add-zero number) k in
     let from = subst (λ w. Run w number more others later) h.1 here in
     subst (λ ans. Run world number more (ans ++ others) later) (sym h.0) from
-run_on world number next (line ∷ lines) more answers others mid later at h k = by_case (is_passed_over line) _ _ _ _ h
+run_on world number next (line ∷ lines) more answers others mid later at h k =
+    by_case (is_passed_over line) _ _ _ _ h
     (λ r. run_on world (number + 1) next lines more answers others mid later (omega arith) r k)
     (λ (r : Heads world number line lines answers mid). (
       r.0,
@@ -60,11 +65,13 @@ run_on world number next (line ∷ lines) more answers others mid later at h k =
     ))
 
 -- A line that is passed over.
-one_passed : (world : World) (number : ℕ) (line : List ℕ) → is_passed_over line ≡ true → Run world number (line ∷ []) [] world
+one_passed : (world : World) (number : ℕ) (line : List ℕ) → is_passed_over line ≡ true
+    → Run world number (line ∷ []) [] world
 one_passed world number line e = at_true (is_passed_over line) _ _ e (refl, refl)
 
 -- A line that is answered.
-one_answered : (world later : World) (number : ℕ) (line : List ℕ) (answer : Answer) → is_passed_over line ≡ false
+one_answered : (world later : World) (number : ℕ) (line : List ℕ) (answer : Answer)
+    → is_passed_over line ≡ false
     → Answers world line answer later → Run world number (line ∷ []) ((number, answer) ∷ []) later
 one_answered world later number line answer e h =
     at_false (is_passed_over line) _ _ e (answer, [], later, refl, h, (refl, refl))
@@ -111,7 +118,8 @@ saves-push (b ∷ answers) number answer =
 overwritten-append : (files : Files) (saves more : List Saved)
     → overwritten files (saves ++ more) ≡ overwritten (overwritten files saves) more
 overwritten-append files [] more = refl
-overwritten-append files (save ∷ saves) more = overwritten-append (fin.insert files save.0 save.1) saves more
+overwritten-append files (save ∷ saves) more =
+    overwritten-append (fin.insert files save.0 save.1) saves more
 
 -- The files behind them.
 files-push : (files : Files) (answers : List (ℕ × Answer)) (number : ℕ) (answer : Answer)
@@ -123,8 +131,10 @@ files-push files answers number answer =
 
 -- ---- the lines so far
 
--- The lines before the rest were answered from this world and these files, which led to now and to left.
-pub record Playing (world : World) (files : Files) (lines rest : List (List ℕ)) (number : ℕ) (refused : Bool) (now : World)
+-- The lines before the rest were answered from this world and these files, which led to now and to
+-- left.
+pub record Playing (world : World) (files : Files) (lines rest : List (List ℕ)) (number : ℕ)
+    (refused : Bool) (now : World)
     (out : List ℕ) (left : Files) : Type 0 where
   pub before : List (List ℕ)
   pub split : lines ≡ before ++ rest
@@ -136,7 +146,8 @@ pub record Playing (world : World) (files : Files) (lines rest : List (List ℕ)
   pub files_are : left ≡ overwritten files (all_saves answers)
 
 -- At the first line.
-pub playing_start : (world : World) (files : Files) (lines : List (List ℕ)) → Playing world files lines lines 0 false world [] files
+pub playing_start : (world : World) (files : Files) (lines : List (List ℕ))
+    → Playing world files lines lines 0 false world [] files
 playing_start world files lines = record {
   before = [];
   split = refl;
@@ -149,26 +160,27 @@ playing_start world files lines = record {
 }
 
 -- Behind the last line.
-pub finished : (world : World) (files : Files) (lines : List (List ℕ)) (number : ℕ) (refused : Bool) (now : World) (out : List ℕ) (left : Files)
-    → Playing world files lines [] number refused now out left → Finished world files lines refused out left
+pub finished : (world : World) (files : Files) (lines : List (List ℕ)) (number : ℕ) (refused : Bool)
+    (now : World) (out : List ℕ) (left : Files)
+    → Playing world files lines [] number refused now out left
+    → Finished world files lines refused out left
 finished world files lines number refused now out left was = record {
   answers = was.answers;
   later = now;
-  ran = subst (λ ls. Run world 1 ls was.answers now) (sym (was.split ∙ append-nil was.before)) was.ran;
+  ran = subst (λ ls. Run world 1 ls was.answers now) (sym (was.split
+      ∙ append-nil was.before)) was.ran;
   out_is = was.out_is;
   refused_is = was.refused_is;
   files_are = was.files_are;
 }
 
 -- An answer that saves this file.
-saving : (answer : Answer) (name bytes : List ℕ) → saves_of answer ≡ (name, bytes) ∷ [] → answer ≡ Answered (replies.Save name bytes)
+saving : (answer : Answer) (name bytes : List ℕ) → saves_of answer ≡ (name, bytes) ∷ []
+    → answer ≡ Answered (replies.Save name bytes)
 saving (Answered (replies.Save own content)) name bytes e =
     let same : ◌≡◌ {A = Saved} (own, content) (name, bytes) = cc in
     ap (λ save. Answered (replies.Save save.0 save.1)) same
-saving (Answered replies.Quiet) name bytes e = absurd (cc)
-saving (Answered (replies.Nodes nodes)) name bytes e = absurd (cc)
-saving (Answered (replies.Arcs arcs)) name bytes e = absurd (cc)
-saving (Refused fault) name bytes e = absurd (cc)
+saving _ name bytes e = absurd (cc)
 
 -- A count that rose in a later call rose since an earlier one.
 pub rose_since : (first before now : ℕ) → first ≤ before → Rose before now → Rose first now
@@ -176,8 +188,10 @@ rose_since first before now later rose = omega arith
 
 -- ---- the next line
 
-module _ (world : World) (files : Files) (lines rest : List (List ℕ)) (line : List ℕ) (number : ℕ) (refused : Bool) (now : World)
-    (out : List ℕ) (left : Files) (was : Playing world files lines (line ∷ rest) number refused now out left) where
+module _ (world : World) (files : Files) (lines rest : List (List ℕ)) (line : List ℕ) (number : ℕ)
+    (refused : Bool) (now : World)
+    (out : List ℕ) (left : Files) (was : Playing world files lines (line ∷ rest) number refused now
+    out left) where
   regroup : lines ≡ (was.before ++ line ∷ []) ++ rest
   regroup = was.split ∙ sym (append_assoc was.before (line ∷ []) rest)
 
@@ -185,23 +199,27 @@ module _ (world : World) (files : Files) (lines rest : List (List ℕ)) (line : 
   one_more = omega (arith, was.number_is, length-append was.before (line ∷ []))
 
   -- It is passed over.
-  pub playing_passed : is_passed_over line ≡ true → Playing world files lines rest (number + 1) refused now out left
+  pub playing_passed : is_passed_over line ≡ true
+      → Playing world files lines rest (number + 1) refused now out left
   playing_passed e =
       let passed = one_passed now (1 + length was.before) line e in
-      let ran = run_on world 1 (1 + length was.before) was.before (line ∷ []) was.answers [] now now refl was.ran passed in
+      let ran = run_on world 1 (1 + length was.before) was.before (line ∷ []) was.answers [] now now
+      refl was.ran passed in
       record {
         before = was.before ++ line ∷ [];
         split = regroup;
         number_is = one_more;
         answers = was.answers;
-        ran = subst (λ ans. Run world 1 (was.before ++ line ∷ []) ans now) (append-nil was.answers) ran;
+        ran = subst (λ ans. Run world 1 (was.before ++ line ∷ []) ans now) (append-nil was.answers)
+            ran;
         out_is = was.out_is;
         refused_is = was.refused_is;
         files_are = was.files_are;
       }
 
   -- It is answered.
-  pub playing_answered : (answer : Answer) (later : World) → is_passed_over line ≡ false → Answers now line answer later
+  pub playing_answered : (answer : Answer) (later : World) → is_passed_over line ≡ false
+      → Answers now line answer later
       → Playing world files lines rest (number + 1) (refused || is_refused answer) later
       (out ++ answer_text (number + 1) answer) (overwritten left (saves_of answer))
   playing_answered answer later e h =
@@ -212,14 +230,19 @@ module _ (world : World) (files : Files) (lines rest : List (List ℕ)) (line : 
         split = regroup;
         number_is = one_more;
         answers = was.answers ++ last;
-        ran = run_on world 1 (number + 1) was.before (line ∷ []) was.answers last now later (omega (arith, was.number_is)) was.ran answered;
-        out_is = ap (λ t. t ++ answer_text (number + 1) answer) was.out_is ∙ sym (report-push was.answers (number + 1) answer);
-        refused_is = ap (λ b. b || is_refused answer) was.refused_is ∙ sym (refusal-push was.answers (number + 1) answer);
-        files_are = ap (λ f. overwritten f (saves_of answer)) was.files_are ∙ sym (files-push files was.answers (number + 1) answer);
+        ran = run_on world 1 (number + 1) was.before (line ∷ []) was.answers last now later
+            (omega (arith, was.number_is)) was.ran answered;
+        out_is = ap (λ t. t ++ answer_text (number + 1) answer) was.out_is
+            ∙ sym (report-push was.answers (number + 1) answer);
+        refused_is = ap (λ b. b || is_refused answer) was.refused_is
+            ∙ sym (refusal-push was.answers (number + 1) answer);
+        files_are = ap (λ f. overwritten f (saves_of answer)) was.files_are
+            ∙ sym (files-push files was.answers (number + 1) answer);
       }
 
   -- The run ends at it, and this part of its text went out.
-  stopped_at : (part all : List ℕ) → all ≡ out ++ part → is_passed_over line ≡ false → StoppedAt world files lines part all
+  stopped_at : (part all : List ℕ) → all ≡ out ++ part → is_passed_over line ≡ false
+      → StoppedAt world files lines part all
   stopped_at part all all_is e = record {
     before = was.before;
     line = line;
@@ -240,33 +263,51 @@ module _ (world : World) (files : Files) (lines rest : List (List ℕ)) (line : 
   stopped_before e = (stopped_at [] out (sym (append-nil out)) e, refl)
 
   -- A write of its text failed.
-  stopped_within : (answer : Answer) (later : World) (part text : List ℕ) → is_passed_over line ≡ false → Answers now line answer later
+  stopped_within : (answer : Answer) (later : World) (part text : List ℕ)
+      → is_passed_over line ≡ false → Answers now line answer later
       → text ≡ answer_text (number + 1) answer → IsPrefixOf part text
       → StoppedWithin world files lines (out ++ part) (overwritten left (saves_of answer))
   unfolding stopped_at
   stopped_within answer later part text e h text_is prefix =
       let more = drop prefix.0 text in
-      let whole : part ++ more ≡ text = ap (λ p. p ++ more) prefix.1 ∙ take-append-drop prefix.0 text in
-      let number_is = ap (λ n. answer_text (n + 1) answer) was.number_is in
-      (part, stopped_at part (out ++ part) refl e, answer, later, more, h, whole ∙ text_is ∙ number_is, refl)
+      let whole : part ++ more ≡ text =
+      ap (λ p. p ++ more) prefix.1 ∙ take-append-drop prefix.0 text in
+      let number_is = ap (λ n. answer_text (n + 1) answer) was.number_is in (
+        part,
+        stopped_at part (out ++ part) refl e,
+        answer,
+        later,
+        more,
+        h,
+        whole ∙ text_is
+            ∙ number_is,
+        refl,
+      )
 
   -- Its answer was not handed over, since the store or the report failed.
-  pub unhanded : (answer : Answer) (later : World) (text : List ℕ) (first : Counts) (piece : Left) → is_passed_over line ≡ false
+  pub unhanded : (answer : Answer) (later : World) (text : List ℕ) (first : Counts) (piece : Left)
+      → is_passed_over line ≡ false
       → Answers now line answer later → text ≡ answer_text (number + 1) answer
-      → first.writes ≤ piece.before.writes → NeverFall first.stores piece.before.stores → Unhanded left (saves_of answer) text piece
-      → Plays world files lines (record { out = out ++ piece.out; files = piece.files; before = first; now = piece.now }) statuses.WriteFault
+      → first.writes ≤ piece.before.writes → NeverFall first.stores piece.before.stores
+      → Unhanded left (saves_of answer) text piece
+      → Plays world files lines (record
+      { out = out ++ piece.out; files = piece.files; before = first; now = piece.now })
+      statuses.WriteFault
   unfolding stopped_at
   unhanded answer later text first piece e h text_is writes stores (inl unwritten) =
       let stop = stopped_within answer later piece.out text e h text_is unwritten.0 in
-      let within = subst (StoppedWithin world files lines (out ++ piece.out)) (sym unwritten.1) stop in
+      let within =
+      subst (StoppedWithin world files lines (out ++ piece.out)) (sym unwritten.1) stop in
       inl (within, rose_since first.writes piece.before.writes piece.now.writes writes unwritten.2)
   unhanded answer later text first piece e h text_is writes stores (inr unstored) =
       let name = unstored.0 in
       let bytes = unstored.1 in
-      let saved = subst (λ said. Answers now line said later) (saving answer name bytes unstored.2) h in
+      let saved =
+      subst (λ said. Answers now line said later) (saving answer name bytes unstored.2) h in
       let stop = stopped_at [] (out ++ piece.out) (ap (λ part. out ++ part) unstored.3) e in
       inr (
         name,
         (stop, bytes, later, saved, unstored.4),
-        rose_since (first.stores name) (piece.before.stores name) (piece.now.stores name) (stores name) unstored.5,
+        rose_since (first.stores name) (piece.before.stores name) (piece.now.stores name)
+            (stores name) unstored.5,
       )

@@ -4,7 +4,8 @@ use Rattle.edge_io.specs.Files.{Files, KeepsPart}
 use Rattle.plain_machine.specs.Texts.{Saved, overwritten}
 use Rattle.plain_machine.specs.Outcome.{Left, IsPrefixOf, WriteRose, StoreRose}
 
--- A write to the report failed: a prefix of the text went out, and what was to be saved stands whole.
+-- A write to the report failed: a prefix of the text went out, and what was to be saved stands
+-- whole.
 abbrev pub Unwritten : Files → List Saved → List ℕ → Left → Type 0
 Unwritten files saves text left =
     IsPrefixOf left.out text × (left.files ≡ overwritten files saves) × WriteRose left

@@ -2,7 +2,7 @@
 
 ghost use Rattle.std.specs.Prelude.{◌≡◌, ℕ, ◌+◌, ◌<◌, ◌≤◌, ◌⊎◌, [], ◌∷◌, List, Some, MatchOption, IfOk, IfSome, IfNone, OnOk, OnErr, true, false};
 ghost use Rattle.base_items.specs.declared.limits.TheConstants.{MAX_STAMP as STAMP_LIMIT};
-ghost use Rattle.edge_io.specs.Causes.{Rose, NeverFall};
+ghost use Rattle.edge_io.specs.Causes.{Rose, NeverFall, StayedSame};
 ghost use Rattle.edge_io.specs.Files.{Files, Took};
 ghost use Rattle.token_text.specs.Lines.{is_passed_over};
 ghost use Rattle.plain_machine.specs.Steps as steps;
@@ -59,7 +59,8 @@ fn answer_command(
     command: &Command,
 ) -> Result<Answer, AllocError>
     requires { world.old.graph.stamps < STAMP_LIMIT }
-    ensures answered { IfOk result (λ answer. steps.AnswersCommand world.old line.now command.now answer world.new) }
+    ensures answered { IfOk result (λ answer.
+        steps.AnswersCommand world.old line.now command.now answer world.new) }
     ensures stamps { world.new.graph.stamps ≤ world.old.graph.stamps + 1 }
 {
     if !built(command) {
@@ -114,15 +115,22 @@ pub fn hand_over<S: Shelf, K: Sink>(
         → (S.files shelf.new ≡ Some (texts.overwritten files (texts.saves_of answer.now)))
         × Took (K.taken report.old) (K.taken report.new) text.now) }
     ensures unhanded { OnErr result (
-        let before : Counts = record { writes = K.faults report.old; stores = S.store_faults shelf.old } in
-        let now : Counts = record { writes = K.faults report.new; stores = S.store_faults shelf.new } in
+        let before : Counts =
+        record { writes = K.faults report.old; stores = S.store_faults shelf.old } in
+        let now : Counts =
+        record { writes = K.faults report.new; stores = S.store_faults shelf.new } in
         (files : Files) → S.files shelf.old ≡ Some files → (out : List ℕ) × (left : Files)
         × Took (K.taken report.old) (K.taken report.new) out × (S.files shelf.new ≡ Some left)
-        × Unhanded files (texts.saves_of answer.now) text.now (record { out = out; files = left; before = before; now = now })) }
+        × Unhanded files (texts.saves_of answer.now) text.now
+        (record { out = out; files = left; before = before; now = now })) }
     ensures cause { OnErr result (Rose (K.faults report.old) (K.faults report.new)
-        ⊎ ((name : List ℕ) × Rose (S.store_faults shelf.old name) (S.store_faults shelf.new name))) }
+        ⊎ ((name : List ℕ)
+        × Rose (S.store_faults shelf.old name) (S.store_faults shelf.new name))) }
     ensures writes { K.faults report.old ≤ K.faults report.new }
     ensures stores { NeverFall (S.store_faults shelf.old) (S.store_faults shelf.new) }
+    ensures quiet { OnOk result (StayedSame (S.read_faults shelf.old) (S.read_faults shelf.new)
+        × StayedSame (S.store_faults shelf.old) (S.store_faults shelf.new)
+        × (K.faults report.new ≡ K.faults report.old)) }
 {
     if let Some((name, bytes)) = saved(answer) {
         shelf.store(name, bytes)?;

@@ -2,29 +2,38 @@
 #![tactic(auto)]
 
 mod answers;
-mod edge;
+mod call_faults;
+#[cfg(test)]
+mod edge_tests;
+mod exit_codes;
+mod file_shelf;
 mod graph_faults;
+mod out_sink;
 mod script;
 pub mod serve;
 #[cfg(test)]
 mod tests;
 
-use edge::{FileShelf, OutSink};
+use exit_codes::exit_code;
+use file_shelf::FileShelf;
+use out_sink::OutSink;
 use plain_machine::Status;
 use std::alloc::{AllocError, Global};
-use std::env;
 use std::process::ExitCode;
+use std::{env, io};
 
 fn main(rt: HostRuntime) -> ExitCode {
-    let status = match words(&rt) {
-        Ok(words) => {
-            let mut shelf = FileShelf::new(&rt);
-            let mut report = OutSink::new(&rt);
-            serve::serve(rt.alloc(), words.as_slice(), &mut shelf, &mut report)
-        }
-        Err(AllocError) => Status::Memory,
+    exit_code(run(&rt))
+}
+
+// Runs the program over the real files and standard output.
+fn run(rt: &HostRuntime) -> Status {
+    let Ok(words) = words(rt) else {
+        return Status::Memory;
     };
-    ExitCode::from(status as u8)
+    let mut shelf = FileShelf::new(rt);
+    let mut report = OutSink::new(io::writer(rt));
+    serve::serve(rt.alloc(), words.as_slice(), &mut shelf, &mut report)
 }
 
 // The words after the program's name. Words that can't be had as text count as none.

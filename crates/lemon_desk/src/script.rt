@@ -1,10 +1,11 @@
 //! Runs of a script, line by line.
 
 ghost use Rattle.std.specs.Prelude.{◌≡◌, ◌+◌, ◌<◌, ◌≤◌, ◌⊎◌, ℕ, List, Some, length};
-ghost use Rattle.edge_io.specs.Causes.{Rose, NeverFall};
+ghost use Rattle.edge_io.specs.Causes.{Rose, NeverFall, StayedSame};
 ghost use Rattle.edge_io.specs.Files.{Files, Took};
 ghost use Rattle.token_text.specs.Lines.{lines_of};
 ghost use Rattle.plain_machine.specs.Outcome.{Counts, IsAnswered, Plays};
+ghost use Rattle.plain_machine.specs.Statuses.{EndsByFault};
 
 use crate::answers::{answer_bytes, answer_line, hand_over, is_refused};
 use base_items::MAX_STAMP;
@@ -14,8 +15,8 @@ use plain_machine::Status;
 use std::alloc::Global;
 use token_text::next_line;
 
-/// Answers the lines of the script in turn. Each answer that saves a file stores it first; its text goes out as
-/// one piece before the next line. It needs a stamp for each line.
+/// Answers the lines of the script in turn. Each answer that saves a file stores it first; its text
+/// goes out as one piece before the next line. It needs a stamp for each line.
 pub fn run_script<S: Shelf, K: Sink>(
     alloc: Global,
     world: &mut World,
@@ -24,16 +25,23 @@ pub fn run_script<S: Shelf, K: Sink>(
     report: &mut K,
 ) -> Status
     requires { world.old.graph.stamps + length script.now < MAX_STAMP }
-    ensures plays { let before : Counts = record { writes = K.faults report.old; stores = S.store_faults shelf.old } in
-        let now : Counts = record { writes = K.faults report.new; stores = S.store_faults shelf.new } in
+    ensures plays { let before : Counts =
+        record { writes = K.faults report.old; stores = S.store_faults shelf.old } in
+        let now : Counts =
+        record { writes = K.faults report.new; stores = S.store_faults shelf.new } in
         (files : Files) → S.files shelf.old ≡ Some files → (out : List ℕ) × (left : Files)
         × Took (K.taken report.old) (K.taken report.new) out × (S.files shelf.new ≡ Some left)
-        × Plays world.old files (lines_of script.now) (record { out = out; files = left; before = before; now = now }) result }
+        × Plays world.old files (lines_of script.now)
+        (record { out = out; files = left; before = before; now = now }) result }
     ensures status { IsAnswered result ⊎ (result ≡ Status.WriteFault) }
     ensures cause { result ≡ Status.WriteFault → Rose (K.faults report.old) (K.faults report.new)
         ⊎ ((name : List ℕ) × Rose (S.store_faults shelf.old name) (S.store_faults shelf.new name)) }
     ensures writes { K.faults report.old ≤ K.faults report.new }
     ensures stores { NeverFall (S.store_faults shelf.old) (S.store_faults shelf.new) }
+    ensures quiet { EndsByFault result
+        ⊎ (StayedSame (S.read_faults shelf.old) (S.read_faults shelf.new)
+        × StayedSame (S.store_faults shelf.old) (S.store_faults shelf.new)
+        × (K.faults report.new ≡ K.faults report.old)) }
 {
     let mut rest = script;
     let mut number: u64 = 0;

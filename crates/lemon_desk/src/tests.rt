@@ -1,16 +1,14 @@
-//! Rows of the program over memory, and calls of the real files.
+//! Rows of the program over memory.
 
-use crate::edge::FileShelf;
 use crate::serve::serve;
-use edge_io::{MemShelf, MemSink, Shelf};
-use plain_machine::{SCRIPT_LIMIT, Status};
+use edge_io::{MemShelf, MemSink};
+use plain_machine::Status;
 use std::alloc::{AllocError, Global};
 use std::process::Abort;
 use std::test::Fail;
-use std::{fs, process};
 
-// Words, files by name, and the call of the sink and of the stores that fails (0 for none). Then what is wanted:
-// the report, files by name, and the status.
+// Words, files by name, and the call of the sink, of the stores and of the reads that fails (0 for
+// none). Then what is wanted: the report, files by name, and the status.
 #[derive(Clone, Copy)]
 struct Row<'a> {
     name: &'a str,
@@ -18,6 +16,7 @@ struct Row<'a> {
     files: &'a [(&'a [u8], &'a [u8])],
     bad_put: u64,
     bad_store: u64,
+    bad_read: u64,
     report: &'a [u8],
     saved: &'a [(&'a [u8], &'a [u8])],
     status: Status,
@@ -32,6 +31,7 @@ const PLAIN: Row<'static> = Row {
     files: &[],
     bad_put: 0,
     bad_store: 0,
+    bad_read: 0,
     report: b"",
     saved: &[],
     status: Status::Done,
@@ -358,6 +358,39 @@ const NAMED: &[u8] =
 
 const WITH_C: &[u8] = b"@nodes\nlabel\t\na\t\nb\t\nc\t\n@arcs\n\t\tlabel\t\na\tb\t0\t\n";
 
+// A graph file is read by two reads, and a script by two more.
+const FAILED_READS: [Row<'static>; 4] = [
+    Row {
+        name: "the first read of the graph fails",
+        files: &[(b"g", JOINED), (b"s", b"nodes base\n")],
+        bad_read: 1,
+        status: Status::ReadFault,
+        ..PLAIN
+    },
+    Row {
+        name: "the last read of the graph fails",
+        files: &[(b"g", JOINED), (b"s", b"nodes base\n")],
+        bad_read: 2,
+        status: Status::ReadFault,
+        ..PLAIN
+    },
+    Row {
+        name: "the first read of the script fails",
+        files: &[(b"g", JOINED), (b"s", b"save one\n"), (b"one", b"old")],
+        bad_read: 3,
+        saved: &[(b"one", b"old")],
+        status: Status::ReadFault,
+        ..PLAIN
+    },
+    Row {
+        name: "there is no fifth read",
+        files: &[(b"g", TWO), (b"s", b"nodes base\n")],
+        bad_read: 5,
+        report: TWO_LISTED,
+        ..PLAIN
+    },
+];
+
 const SAVES: [Row<'static>; 14] = [
     Row {
         name: "a file as it is written, saved again",
@@ -527,7 +560,10 @@ fn shelf_of(alloc: Global, row: &Row<'_>) -> Result<MemShelf, AllocError> {
     for (name, text) in row.files {
         shelf.add_file(Vec::from_slice(alloc, name)?, Vec::from_slice(alloc, text)?)?;
     }
-    shelf.fail_at(Vec::new(alloc), Vec::from_slice(alloc, &[row.bad_store])?);
+    shelf.fail_at(
+        Vec::from_slice(alloc, &[row.bad_read])?,
+        Vec::from_slice(alloc, &[row.bad_store])?,
+    );
     Ok(shelf)
 }
 
@@ -540,6 +576,11 @@ fn check_row<R: Abort>(rt: &R, alloc: Global, row: &Row<'_>) -> Result<(), Alloc
     let status = serve(alloc, words.as_slice(), &mut shelf, &mut report);
     assert_eq!(rt; status, row.status, "{name}");
     assert_eq!(rt; report.taken(), row.report, "{name}");
+    assert_eq!(rt;
+        (shelf.memory_faults(), report.memory_faults()),
+        (0, 0),
+        "{name}"
+    );
     for (file, bytes) in row.saved {
         assert_eq!(rt; shelf.file(file), Some(*bytes), "{name}");
     }
@@ -587,15 +628,28 @@ fn saves_graphs(rt: HostRuntime) -> Result<(), Fail> {
 }
 
 #[test]
-fn a_script_above_its_limit(rt: HostRuntime) -> Result<(), Fail> {
-    let alloc = rt.alloc();
+fn ends_at_the_first_read_that_fails(rt: HostRuntime) -> Result<(), Fail> {
+    for row in FAILED_READS {
+        check_row(&rt, rt.alloc(), &row)?;
+    }
+    Ok(())
+}
+
+// The graph file and the script are as long as this and have only `#`; None is for the graph EMPTY.
+fn check_lengths<R: Abort>(
+    rt: &R,
+    alloc: Global,
+    graph: Option<usize>,
+    script: usize,
+) -> Result<(), AllocError> {
     let mut shelf = MemShelf::new(alloc);
-    shelf.add_file(
-        Vec::from_slice(alloc, b"g")?,
-        Vec::from_slice(alloc, EMPTY)?,
-    )?;
-    let script = vec![in alloc; b'#'; SCRIPT_LIMIT + 1]?;
-    shelf.add_file(Vec::from_slice(alloc, b"s")?, script)?;
+    let text = match graph {
+        Some(length) => vec![in alloc; b'#'; length]?,
+        None => Vec::from_slice(alloc, EMPTY)?,
+    };
+    shelf.add_file(Vec::from_slice(alloc, b"g")?, text)?;
+    let text = vec![in alloc; b'#'; script]?;
+    shelf.add_file(Vec::from_slice(alloc, b"s")?, text)?;
     let mut report = MemSink::new(alloc);
     let words = words_of(alloc, RUN)?;
     let status = serve(alloc, words.as_slice(), &mut shelf, &mut report);
@@ -605,15 +659,11 @@ fn a_script_above_its_limit(rt: HostRuntime) -> Result<(), Fail> {
 }
 
 #[test]
-fn files_are_stored_and_read(rt: HostRuntime) -> Result<(), Fail> {
-    let path = format!(in rt.alloc(); "/tmp/lgdesk-{}", process::id(rt.process()))?;
-    let name = path.as_bytes();
-    let mut shelf = FileShelf::new(&rt);
-    let mut bytes = [0u8; 8];
-    assert!(rt; shelf.store(name, b"four").is_ok());
-    assert_eq!(rt; shelf.read_at(name, 1, &mut bytes), Ok(3));
-    assert_eq!(rt; &bytes[..3], b"our".as_slice());
-    assert!(rt; fs::remove_file(&rt, path.as_str()).is_ok());
-    assert!(rt; shelf.read_at(name, 0, &mut bytes).is_err());
-    Ok(())
+fn a_script_above_its_limit(rt: HostRuntime) -> Result<(), Fail> {
+    Ok(check_lengths(&rt, rt.alloc(), None, 16_777_217)?)
+}
+
+#[test]
+fn a_graph_above_its_limit(rt: HostRuntime) -> Result<(), Fail> {
+    Ok(check_lengths(&rt, rt.alloc(), Some(67_108_865), 1)?)
 }
