@@ -52,8 +52,12 @@ pub reads_long : (files : Files) (name bytes : List ℕ) (limit : ℕ) → Begin
     → limit < length bytes → IsTooLong files name limit
 reads_long files name bytes limit begins long = ⊎_elim
     (λ (e : bytes ≡ []). absurd (omega (arith, ap length e)))
-    (λ (h : (rest : List ℕ) × Holds files name (bytes ++ rest)). (bytes ++ h.0, h.1, omega
-    (arith, length-append bytes h.0)))
+    (λ (h : (rest : List ℕ) × Holds files name (bytes ++ rest)). (
+      bytes ++ h.0,
+      h.1,
+      omega
+          (arith, length-append bytes h.0),
+    ))
     begins
 
 -- one part after another is the two parts joined

@@ -17,6 +17,9 @@ pub returns-then-is_err-clause-part : goal.returns-then-is_err-clause-part
 returns-then-is_err-clause-part c = λ all told.
     let files = λ (shelf : ShelfInMemory). shelf.files in
     let failed = sym c.is_err.ensures.value ∙ c.if-is_err.true in
-    let kept = at_err c.keep.result failed c.keep.ensures.err in
-    (_, refl, inl (ap files (c.self-2.view_is ∙ kept) ∙ ap files c.self.view_is
-    ∙ same_Some _ _ told))
+    let kept = at_err c.keep.result failed c.keep.ensures.err in (
+      _,
+      refl,
+      inl (ap files (c.self-2.view_is ∙ kept) ∙ ap files c.self.view_is
+          ∙ same_Some _ _ told),
+    )
