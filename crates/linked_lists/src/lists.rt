@@ -27,7 +27,6 @@ pub fn remove(head: &mut Option<u32>, links: &mut Vec<Link>, id: u32)
 /// none.
 pub fn insert(head: &mut Option<u32>, links: &mut Vec<Link>, behind: Option<u32>, id: u32)
     requires id { id < length links.old.items }
-    requires head { spec.IsPlace (length links.old.items) head.old }
     requires behind { spec.IsPlace (length links.old.items) behind }
     requires next { spec.IsPlace (length links.old.items)
         (spec.next_from head.old links.old.items behind) }

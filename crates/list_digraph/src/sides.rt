@@ -49,7 +49,6 @@ pub fn enter_out(
 )
     requires node { node < length nodes.old.items }
     requires arc { arc < length links.old.items }
-    requires head { spec.IsPlace (length links.old.items) (rows.out_head nodes.old.items node) }
     requires behind { spec.IsPlace (length links.old.items) behind }
     requires next { spec.IsPlace (length links.old.items)
         (spec.next_from (rows.out_head nodes.old.items node) links.old.items behind) }
@@ -75,7 +74,6 @@ pub fn enter_in(
 )
     requires node { node < length nodes.old.items }
     requires arc { arc < length links.old.items }
-    requires head { spec.IsPlace (length links.old.items) (rows.in_head nodes.old.items node) }
     requires behind { spec.IsPlace (length links.old.items) behind }
     requires next { spec.IsPlace (length links.old.items)
         (spec.next_from (rows.in_head nodes.old.items node) links.old.items behind) }
