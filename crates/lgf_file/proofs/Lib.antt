@@ -29,3 +29,9 @@ pub mod WrittenRows
 pub mod WrittenSections
 pub mod RoundTrip
 pub mod Appended
+pub mod SomeRows
+pub mod WithoutFault
+pub mod NodesSaid
+pub mod ArcsSaid
+pub mod AttributesSaid
+pub mod SomeAnswer

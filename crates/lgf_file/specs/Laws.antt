@@ -1,5 +1,5 @@
 -- What holds of documents, of the bytes that spell them and of faults.
-use Rattle.std.specs.Prelude.{◌≡◌, ℕ, List}
+use Rattle.std.specs.Prelude.{◌≡◌, ℕ, List, ◌⊎◌}
 use Rattle.token_text.specs.Lines.{lines_of}
 use Rattle.lgf_file.specs.Documents.{IsDoc, Spells}
 use Rattle.lgf_file.specs.Plain.{plain}
@@ -26,3 +26,8 @@ FaultSpellsNone = (bytes : List ℕ) (fault : LgfFault) (doc : Doc) → HasFault
 -- There is one first fault at most.
 abbrev pub OneFault : Type 0
 OneFault = (bytes : List ℕ) (one other : LgfFault) → HasFault bytes one → HasFault bytes other → one ≡ other
+
+-- Bytes spell a document or have a first fault.
+abbrev pub SomeAnswer : Type 0
+SomeAnswer =
+    (bytes : List ℕ) → ((doc : Doc) × Spells bytes doc) ⊎ ((fault : LgfFault) × HasFault bytes fault)

@@ -1,6 +1,6 @@
 //! Laws of documents. Each is a function that does nothing.
 
-ghost use Rattle.lgf_file.specs.Laws.{PlainSpells, OneDocument, FaultSpellsNone, OneFault};
+ghost use Rattle.lgf_file.specs.Laws.{PlainSpells, OneDocument, FaultSpellsNone, OneFault, SomeAnswer};
 
 /// The written document spells its document. So what was written is read again as itself.
 pub fn plain_spells()
@@ -20,4 +20,9 @@ pub fn fault_spells_none()
 /// There is one first fault at most.
 pub fn one_fault()
     ensures { OneFault }
+{}
+
+/// Bytes spell a document or have a first fault.
+pub fn some_answer()
+    ensures { SomeAnswer }
 {}

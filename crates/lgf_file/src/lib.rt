@@ -17,6 +17,6 @@ mod writing;
 pub use documents::{Doc, Link, Table};
 pub use faults::{DocFault, LgfFault, LgfKind};
 pub use heads::find_label;
-pub use laws::{fault_spells_none, one_document, one_fault, plain_spells};
+pub use laws::{fault_spells_none, one_document, one_fault, plain_spells, some_answer};
 pub use reading::read_doc;
 pub use writing::doc_bytes;

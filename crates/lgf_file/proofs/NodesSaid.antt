@@ -1,0 +1,86 @@
+-- Rows of nodes that are in order are those of a table.
+use Rattle.std.proofs.Common.{◌≡◌, Bool, true, false, List, [], ◌∷◌, ◌++◌, length, Some, None, refl, sym, subst, arith, append_assoc, append-nil}
+use Rattle.std.specs.Prelude.{if◌then◌else◌}
+use Rattle.base_items.specs.declared.limits.TheConstants.{MAX_NODES}
+use Rattle.token_text.specs.Names.{is_among}
+use Rattle.lgf_file.specs.Sections.{Line}
+use Rattle.lgf_file.specs.Rows.{Cells}
+use Rattle.lgf_file.specs.Documents.{IsTable, NodesSpell, label, label_in, label_place, labels_of}
+use Rattle.lgf_file.specs.Faults.{InOrder, node_fault, node_head_fault, node_row_fault, columns_fault, room_fault, width_fault, twice_fault}
+use Rattle.lgf_file.specs.Reading.{AllRead}
+use Rattle.lgf_file.specs.Readers.{AreNodes}
+use Rattle.lgf_file.specs.declared.documents.Table.{Table}
+use Rattle.lgf_file.specs.declared.heads.Head.{Head}
+use Rattle.lgf_file.specs.declared.faults.LgfKind.TheVariants.{NoLabel, TwiceLabel}
+use Rattle.lgf_file.proofs.NodeRows.{node_push}
+use Rattle.lgf_file.proofs.NoFaults.{width_is}
+use Rattle.lgf_file.proofs.WithoutFault.{both_none, room_is, twice_is, columns_are}
+
+-- The table with these columns and rows.
+abbrev table_with : Cells → List Cells → Table
+table_with columns rows = record { columns = columns; rows = rows }
+
+-- Without rows it is one, if its first line isn't at fault.
+head_said : (columns : Cells) → node_head_fault columns ≡ None → IsTable (table_with columns [])
+head_said columns none =
+    let parts = both_none (columns_fault columns) _ none in
+    record {
+      columns_ok = columns_are columns parts.0;
+      labelled = by_test (is_among label columns) parts.1;
+      wide = λ k d within. absurd (omega (arith, within));
+      labels_differ = refl;
+      few = omega arith;
+    }
+  where
+    by_test : (test : Bool) → (if test then None else Some NoLabel) ≡ None → test ≡ true
+    by_test true is = refl
+    by_test false is = absurd (cc)
+
+-- With one row more it is one, if the row isn't at fault.
+row_said : (columns : Cells) (before : List Cells) (cells : Cells)
+    → IsTable (table_with columns before)
+    → node_row_fault columns before cells ≡ None
+    → IsTable (table_with columns (before ++ cells ∷ []))
+row_said columns before cells right none =
+    let head : Head = record { columns = columns; label_place = label_place columns } in
+    let labels = labels_of columns before in
+    let name = label_in columns cells in
+    let width = width_fault (length columns) cells in
+    let twice = twice_fault TwiceLabel name labels in
+    let room = both_none (room_fault MAX_NODES before) _ none in
+    let rest = both_none width twice room.1 in
+    let held : AreNodes head before labels =
+    record { head_ok = refl; table = right; labels_are = refl } in
+    (node_push head before labels cells held (room_is MAX_NODES before room.0)
+    (width_is (length columns) cells rest.0) (twice_is TwiceLabel name labels rest.1)
+    (before ++ cells ∷ []) (labels ++ name ∷ []) refl refl).table
+
+rows_said : (columns : Cells) (before more : List Cells) → IsTable (table_with columns before)
+    → InOrder node_fault (columns ∷ before) more → IsTable (table_with columns (before ++ more))
+rows_said columns before [] right order =
+    subst (λ rows. IsTable (table_with columns rows)) (sym (append-nil before)) right
+rows_said columns before (cells ∷ more) right order =
+    subst (λ rows. IsTable (table_with columns rows)) (append_assoc before (cells ∷ []) more)
+    (rows_said columns (before ++ cells ∷ []) more (row_said columns before cells right order.0)
+    order.1)
+
+-- The nodes that the lines say.
+pub record NodesSaid (lines : List Line) : Type 0 where
+  pub table : Table
+  pub right : IsTable table
+  pub spells : NodesSpell lines table
+
+pub nodes_said : (lines : List Line) (read : List Cells) → AllRead node_fault lines read
+    → NodesSaid lines
+nodes_said [] [] all = record {
+  table = table_with (label ∷ []) [];
+  right = head_said (label ∷ []) refl;
+  spells = (refl, refl);
+}
+nodes_said [] (cells ∷ read) all = absurd all.read_is
+nodes_said (line ∷ lines) [] all = absurd all.read_is
+nodes_said (line ∷ lines) (columns ∷ rows) all = record {
+  table = table_with columns rows;
+  right = rows_said columns [] rows (head_said columns all.fine.0) all.fine.1;
+  spells = all.read_is;
+}
