@@ -1,9 +1,10 @@
 -- Arcs that a view shows have ends that are numbered.
 use Rattle.std.proofs.Common.{◌≡◌, ℕ, suc, ◌+◌, ◌<◌, Bool, true, false, ◌&&◌, ◌||◌, not, cond, eqb}
-use Rattle.std.proofs.Common.{List, [], ◌∷◌, length, get_or, All, refl}
-use Rattle.std.proofs.Common.{arith}
+use Rattle.std.proofs.Common.{List, [], ◌∷◌, length, get_or, map, All, refl, ap, ◌∙◌, arith}
 use Rattle.std.specs.List.{list_any, flat_map}
 use Rattle.std.proofs.lemmas.Bool.Decides.{nat_tests}
+use Rattle.std.proofs.Math.ListN.{get_or-map}
+use Rattle.std.proofs.lemmas.List.{get_or_default, length-map}
 use Rattle.std.proofs.lemmas.List.Elements.{All-nil, All-cons, All-append, All-filter}
 use Rattle.std.proofs.lemmas.List.Sums.{passes_at_first}
 use Rattle.plain_digraph.specs.Lists.{has}
@@ -67,12 +68,31 @@ arc_has_ends p k shown l =
     both true b e = (refl, e)
     both false b e = absurd cc
 
+-- the number of an end, read from the list of all
+end_read : (p : Shown) (end : ShownArc → ℕ) (k : ℕ) → k < length (arcs_in_order p)
+    → get_or (map (λ arc. place_of p.nodes (end arc)) (arcs_in_order p)) k 0
+    ≡ place_of p.nodes (end (arc_at p k))
+end_read p end k l =
+    let number = λ (arc : ShownArc). place_of p.nodes (end arc) in
+    let none : ShownArc = record { id = 0; from = 0; to = 0 } in
+    let size = length-map (arcs_in_order p) number in
+    get_or_default (map number (arcs_in_order p)) k 0 (number none) (omega (arith, size, l))
+    ∙ get_or-map number (arcs_in_order p) k none
+
 pub numbered_has_ends : NumberedHasEnds
 numbered_has_ends p shown k l =
     let ends = arc_has_ends p k shown l in
-    (place_below p.nodes (arc_at p k).from ends.0, place_below p.nodes (arc_at p k).to ends.1)
+    let from = end_read p (λ arc. arc.from) k l in
+    let to = end_read p (λ arc. arc.to) k l in
+    let a = place_below p.nodes (arc_at p k).from ends.0 in
+    let b = place_below p.nodes (arc_at p k).to ends.1 in
+    (omega (arith, from, a), omega (arith, to, b))
 
 pub numbered_keeps_ends : NumberedKeepsEnds
 numbered_keeps_ends p k shown l =
-    let ends = arc_has_ends p k shown l in
-    (at_place p.nodes (arc_at p k).from ends.0, at_place p.nodes (arc_at p k).to ends.1)
+    let ends = arc_has_ends p k shown l in (
+      ap (λ v. get_or p.nodes v 0) (end_read p (λ arc. arc.from) k l)
+          ∙ at_place p.nodes (arc_at p k).from ends.0,
+      ap (λ v. get_or p.nodes v 0) (end_read p (λ arc. arc.to) k l)
+          ∙ at_place p.nodes (arc_at p k).to ends.1,
+    )

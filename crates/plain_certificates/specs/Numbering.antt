@@ -1,5 +1,5 @@
 -- What a view shows, numbered in its order.
-use Rattle.std.specs.Prelude.{◌≡◌, ℕ, ◌<◌, length}
+use Rattle.std.specs.Prelude.{◌≡◌, ℕ, ◌<◌, map, length}
 use Rattle.plain_views.specs.Shown.{Shown, ShownArc, arcs_in_order, IsShown}
 use Rattle.plain_certificates.specs.Numbered.{Numbered, EndsAreNodes}
 use Rattle.plain_certificates.specs.Tables.{at, place_of}
@@ -17,8 +17,8 @@ abbrev pub numbered : Shown → Numbered
 numbered p = record {
   nodes = length p.nodes;
   arcs = length (arcs_in_order p);
-  from = λ arc. place_of p.nodes (arc_at p arc).from;
-  to = λ arc. place_of p.nodes (arc_at p arc).to;
+  from = at 0 (map (λ arc. place_of p.nodes arc.from) (arcs_in_order p));
+  to = at 0 (map (λ arc. place_of p.nodes arc.to) (arcs_in_order p));
 }
 
 -- ---- laws
