@@ -71,11 +71,12 @@ abbrev pub need_of_held : Held → ℕ
 need_of_held Nothing = 0
 need_of_held (Values t es) = 0
 need_of_held (Degree out ends) = above_all ends
-need_of_held (Half added others kept valid) = above_all (map fact_id kept)
+need_of_held (Half added others kept valid) = length kept
 need_of_held (Kept role all items) = need_of_kept role items
 need_of_held (Ties ties) = 0
 
--- how far an undo has to reach
+-- how far an undo has to reach: past the ends of what it counts or keeps by ends, and for a half as
+-- many facts as it keeps
 abbrev pub need : Seen → ℕ
 need s = above_all (ends_of s.facts) + need_of_held s.held
 
