@@ -26,107 +26,114 @@ use Rattle.list_digraph.proofs.Columns.{out_head as read_out_head, in_head as re
 use Rattle.list_digraph.proofs.Seen.{node_below, row_source, row_target}
 use Rattle.list_digraph.proofs.ArcSteps.{outs_left, ins_left}
 use Rattle.list_digraph.proofs.ArcMoves.{out_head_placed, in_head_placed}
-use Rattle.list_digraph.proofs.Moved.{left_heads}
+use Rattle.list_digraph.proofs.Calls.{Row, OutLeft, InLeft, node_inside, outs_are_left, ins_are_left}
 use Rattle.list_digraph.proofs.Relaid.{out_head, in_head, out_behind, in_behind, out_chain_within, in_chain_within, out_behind_placed, in_behind_placed, out_next_placed, in_next_placed, laid_shows}
 
-module _ (f : Inside) {g : Digraph} (s : Shows (tables_of f) g) (fact : Fact) (old : ArcRow) (live : IsLive g sorts.Arc fact.id)
-    (is : old ≡ get_or f.arcs.items fact.id old) (from_live : IsLive g sorts.Node fact.from) (to_live : IsLive g sorts.Node fact.to) where
+module _ {f : Inside} {g : Digraph} (fact : Fact) {old : ArcRow} (r : Row f g fact.id old)
+    (from_live : IsLive g sorts.Node fact.from) (to_live : IsLive g sorts.Node fact.to) where
   abbrev arc : ℕ
   arc = fact.id
 
   abbrev o_head : Option ℕ
-  o_head = out_head s arc live fact.from fact.from_at from_live
+  o_head = out_head r.shows arc r.live fact.from fact.from_at from_live
 
   abbrev i_head : Option ℕ
-  i_head = in_head s arc live fact.to fact.to_at to_live
+  i_head = in_head r.shows arc r.live fact.to fact.to_at to_live
 
   abbrev o_behind : Option ℕ
-  o_behind = out_behind s arc live fact.from fact.from_at from_live
+  o_behind = out_behind r.shows arc r.live fact.from fact.from_at from_live
 
   abbrev i_behind : Option ℕ
-  i_behind = in_behind s arc live fact.to fact.to_at to_live
+  i_behind = in_behind r.shows arc r.live fact.to fact.to_at to_live
 
   -- ---- by source
 
-  module _ (nodes1 : List NodeRow) (links1 : List Link)
-      (leaves : SetsOut f.nodes.items nodes1 old.from (head_removed (head_at (out_heads f.nodes.items) old.from) f.out_links.items arc)) (left : links1 ≡ removed f.out_links.items arc) where
-    pub outs_are_left : out_heads nodes1 ≡ outs_left s arc live
-    outs_are_left = leaves.outs ∙ ap (left_heads (out_heads f.nodes.items) f.out_links.items arc) (row_source s arc old live is)
+  module _ {nodes1 : List NodeRow} {links1 : List Link} (out : OutLeft f arc old.from nodes1 links1) where
+    pub from_inside : fact.from < length nodes1
+    from_inside = node_inside f r.shows fact.from nodes1 from_live out.leaves.stamps
 
-    pub out_head_read : (row : NodeRow) → fact.from < length nodes1 → row ≡ get_or nodes1 fact.from row → row.first_out ≡ o_head
-    out_head_read row below read = ap (λ (r : NodeRow). r.first_out) read ∙ read_out_head nodes1 fact.from row below ∙ ap (λ h. head_at h fact.from) outs_are_left
+    out_head_read : (row : NodeRow) → row ≡ get_or nodes1 fact.from row → row.first_out ≡ o_head
+    out_head_read row read =
+        ap (λ (r : NodeRow). r.first_out) read ∙ read_out_head nodes1 fact.from row from_inside
+        ∙ ap (λ h. head_at h fact.from) (outs_are_left r out)
 
-    pub out_walk_within : (first : Option ℕ) → first ≡ o_head → AreWithin (length links1) (chain links1 (length links1) first)
-    out_walk_within first head = subst (λ (l : List Link). AreWithin (length l) (chain l (length l) first)) (sym left)
-        (subst (λ o. AreWithin (length (removed f.out_links.items arc)) (chain (removed f.out_links.items arc) (length (removed f.out_links.items arc)) o)) (sym head)
-        (out_chain_within s arc live fact.from fact.from_at from_live))
+    -- The walk that looks for the place.
+    pub out_walk : (row : NodeRow) → row ≡ get_or nodes1 fact.from row
+        → AreWithin (length links1) (chain links1 (length links1) row.first_out)
+    out_walk row read =
+        let links = removed f.out_links.items arc in
+        subst (λ (l : List Link). AreWithin (length l) (chain l (length l) row.first_out)) (sym out.left)
+        (subst (λ o. AreWithin (length links) (chain links (length links) o)) (sym (out_head_read row read))
+        (out_chain_within r.shows arc r.live fact.from fact.from_at from_live))
 
-    pub out_walk_rows : length f.arcs.items ≡ length links1
-    out_walk_rows = s.arcs_used ∙ sym s.out_links_used ∙ sym (ap length left ∙ removed-length f.out_links.items arc)
+    pub out_found : (row : NodeRow) (behind : Option ℕ) → row ≡ get_or nodes1 fact.from row
+        → behind ≡ last_newer (stamp_in Source f.arcs.items) fact.from_at None (chain links1 (length links1) row.first_out)
+        → behind ≡ o_behind
+    out_found row behind read walked =
+        let head = out_head_read row read in
+        walked ∙ (λ i. last_newer (stamp_in Source f.arcs.items) fact.from_at None
+        (chain (out.left i) (length (out.left i)) (head i)))
 
-    pub out_walk_is : (first behind : Option ℕ) → first ≡ o_head → behind ≡ last_newer (stamp_in Source f.arcs.items) fact.from_at None (chain links1 (length links1) first) → behind ≡ o_behind
-    out_walk_is first behind head walked = walked ∙ (λ i. last_newer (stamp_in Source f.arcs.items) fact.from_at None (chain (left i) (length (left i)) (head i)))
+    pub out_behind_fits : (behind : Option ℕ) → behind ≡ o_behind → IsPlace (length links1) behind
+    out_behind_fits behind found = subst (IsPlace (length links1)) (sym found)
+        (subst (λ (l : List Link). IsPlace (length l) o_behind) (sym out.left)
+        (out_behind_placed r.shows arc r.live fact.from fact.from_at from_live))
 
-    pub out_enter_head : IsPlace (length links1) (head_at (out_heads nodes1) fact.from)
-    out_enter_head =
-        let below = node_below s fact.from from_live in
-        subst (λ h. IsPlace (length links1) (head_at h fact.from)) (sym outs_are_left)
-        (subst (λ (l : List Link). IsPlace (length l) o_head) (sym left) (out_head_placed s arc live fact.from (omega (arith, below, s.outs_used))))
-
-    pub out_enter_behind : (behind : Option ℕ) → behind ≡ o_behind → IsPlace (length links1) behind
-    out_enter_behind behind b = subst (IsPlace (length links1)) (sym b)
-        (subst (λ (l : List Link). IsPlace (length l) o_behind) (sym left) (out_behind_placed s arc live fact.from fact.from_at from_live))
-
-    pub out_enter_next : (behind : Option ℕ) → behind ≡ o_behind → IsPlace (length links1) (next_from (head_at (out_heads nodes1) fact.from) links1 behind)
-    out_enter_next behind b = subst (λ h. IsPlace (length links1) (next_from (head_at h fact.from) links1 behind)) (sym outs_are_left)
-        (subst (λ o. IsPlace (length links1) (next_from o_head links1 o)) (sym b)
-        (subst (λ (l : List Link). IsPlace (length l) (next_from o_head l o_behind)) (sym left) (out_next_placed s arc live fact.from fact.from_at from_live)))
+    pub out_next_fits : (behind : Option ℕ) → behind ≡ o_behind
+        → IsPlace (length links1) (next_from (head_at (out_heads nodes1) fact.from) links1 behind)
+    out_next_fits behind found =
+        subst (λ h. IsPlace (length links1) (next_from (head_at h fact.from) links1 behind)) (sym (outs_are_left r out))
+        (subst (λ o. IsPlace (length links1) (next_from o_head links1 o)) (sym found)
+        (subst (λ (l : List Link). IsPlace (length l) (next_from o_head l o_behind)) (sym out.left)
+        (out_next_placed r.shows arc r.live fact.from fact.from_at from_live)))
 
   -- ---- by target
 
-  module _ (nodes0 nodes1 : List NodeRow) (links1 : List Link) (same : in_heads nodes0 ≡ in_heads f.nodes.items)
-      (leaves : SetsIn nodes0 nodes1 old.to (head_removed (head_at (in_heads nodes0) old.to) f.in_links.items arc)) (left : links1 ≡ removed f.in_links.items arc) where
-    pub ins_are_left : in_heads nodes1 ≡ ins_left s arc live
-    ins_are_left = leaves.ins ∙ ap (λ h. left_heads h f.in_links.items arc old.to) same ∙ ap (left_heads (in_heads f.nodes.items) f.in_links.items arc) (row_target s arc old live is)
+  module _ {nodes0 nodes1 : List NodeRow} {links1 : List Link} (into : InLeft f arc old.to nodes0 nodes1 links1) where
+    pub to_inside : fact.to < length nodes1
+    to_inside = node_inside f r.shows fact.to nodes1 to_live (into.leaves.stamps ∙ into.stamps)
 
-    pub in_head_read : (row : NodeRow) → fact.to < length nodes1 → row ≡ get_or nodes1 fact.to row → row.first_in ≡ i_head
-    in_head_read row below read = ap (λ (r : NodeRow). r.first_in) read ∙ read_in_head nodes1 fact.to row below ∙ ap (λ h. head_at h fact.to) ins_are_left
+    in_head_read : (row : NodeRow) → row ≡ get_or nodes1 fact.to row → row.first_in ≡ i_head
+    in_head_read row read =
+        ap (λ (r : NodeRow). r.first_in) read ∙ read_in_head nodes1 fact.to row to_inside
+        ∙ ap (λ h. head_at h fact.to) (ins_are_left r into)
 
-    pub in_walk_within : (first : Option ℕ) → first ≡ i_head → AreWithin (length links1) (chain links1 (length links1) first)
-    in_walk_within first head = subst (λ (l : List Link). AreWithin (length l) (chain l (length l) first)) (sym left)
-        (subst (λ o. AreWithin (length (removed f.in_links.items arc)) (chain (removed f.in_links.items arc) (length (removed f.in_links.items arc)) o)) (sym head)
-        (in_chain_within s arc live fact.to fact.to_at to_live))
+    pub in_walk : (row : NodeRow) → row ≡ get_or nodes1 fact.to row
+        → AreWithin (length links1) (chain links1 (length links1) row.first_in)
+    in_walk row read =
+        let links = removed f.in_links.items arc in
+        subst (λ (l : List Link). AreWithin (length l) (chain l (length l) row.first_in)) (sym into.left)
+        (subst (λ o. AreWithin (length links) (chain links (length links) o)) (sym (in_head_read row read))
+        (in_chain_within r.shows arc r.live fact.to fact.to_at to_live))
 
-    pub in_walk_rows : length f.arcs.items ≡ length links1
-    in_walk_rows = s.arcs_used ∙ sym s.in_links_used ∙ sym (ap length left ∙ removed-length f.in_links.items arc)
+    pub in_found : (row : NodeRow) (behind : Option ℕ) → row ≡ get_or nodes1 fact.to row
+        → behind ≡ last_newer (stamp_in Target f.arcs.items) fact.to_at None (chain links1 (length links1) row.first_in)
+        → behind ≡ i_behind
+    in_found row behind read walked =
+        let head = in_head_read row read in
+        walked ∙ (λ i. last_newer (stamp_in Target f.arcs.items) fact.to_at None
+        (chain (into.left i) (length (into.left i)) (head i)))
 
-    pub in_walk_is : (first behind : Option ℕ) → first ≡ i_head → behind ≡ last_newer (stamp_in Target f.arcs.items) fact.to_at None (chain links1 (length links1) first) → behind ≡ i_behind
-    in_walk_is first behind head walked = walked ∙ (λ i. last_newer (stamp_in Target f.arcs.items) fact.to_at None (chain (left i) (length (left i)) (head i)))
+    pub in_behind_fits : (behind : Option ℕ) → behind ≡ i_behind → IsPlace (length links1) behind
+    in_behind_fits behind found = subst (IsPlace (length links1)) (sym found)
+        (subst (λ (l : List Link). IsPlace (length l) i_behind) (sym into.left)
+        (in_behind_placed r.shows arc r.live fact.to fact.to_at to_live))
 
-    pub in_enter_head : IsPlace (length links1) (head_at (in_heads nodes1) fact.to)
-    in_enter_head =
-        let below = node_below s fact.to to_live in
-        subst (λ h. IsPlace (length links1) (head_at h fact.to)) (sym ins_are_left)
-        (subst (λ (l : List Link). IsPlace (length l) i_head) (sym left) (in_head_placed s arc live fact.to (omega (arith, below, s.ins_used))))
-
-    pub in_enter_behind : (behind : Option ℕ) → behind ≡ i_behind → IsPlace (length links1) behind
-    in_enter_behind behind b = subst (IsPlace (length links1)) (sym b)
-        (subst (λ (l : List Link). IsPlace (length l) i_behind) (sym left) (in_behind_placed s arc live fact.to fact.to_at to_live))
-
-    pub in_enter_next : (behind : Option ℕ) → behind ≡ i_behind → IsPlace (length links1) (next_from (head_at (in_heads nodes1) fact.to) links1 behind)
-    in_enter_next behind b = subst (λ h. IsPlace (length links1) (next_from (head_at h fact.to) links1 behind)) (sym ins_are_left)
-        (subst (λ o. IsPlace (length links1) (next_from i_head links1 o)) (sym b)
-        (subst (λ (l : List Link). IsPlace (length l) (next_from i_head l i_behind)) (sym left) (in_next_placed s arc live fact.to fact.to_at to_live)))
+    pub in_next_fits : (behind : Option ℕ) → behind ≡ i_behind
+        → IsPlace (length links1) (next_from (head_at (in_heads nodes1) fact.to) links1 behind)
+    in_next_fits behind found =
+        subst (λ h. IsPlace (length links1) (next_from (head_at h fact.to) links1 behind)) (sym (ins_are_left r into))
+        (subst (λ o. IsPlace (length links1) (next_from i_head links1 o)) (sym found)
+        (subst (λ (l : List Link). IsPlace (length l) (next_from i_head l i_behind)) (sym into.left)
+        (in_next_placed r.shows arc r.live fact.to fact.to_at to_live)))
 
   -- ---- the whole
 
-  pub shows_laid : (stamps : ℕ) (nodes1 nodes2 nodes3 nodes4 : List NodeRow) (links1 links2 links3 links4 : List Link) (behind1 behind2 : Option ℕ)
+  pub shows_laid : (stamps : ℕ) {nodes1 nodes2 nodes3 nodes4 : List NodeRow} {links1 links2 links3 links4 : List Link} {behind1 behind2 : Option ℕ}
       → IsValid (laid_by g fact stamps)
-      → SetsOut f.nodes.items nodes1 old.from (head_removed (head_at (out_heads f.nodes.items) old.from) f.out_links.items arc) → links1 ≡ removed f.out_links.items arc
-      → behind1 ≡ o_behind
+      → OutLeft f arc old.from nodes1 links1 → behind1 ≡ o_behind
       → SetsOut nodes1 nodes2 fact.from (head_inserted (head_at (out_heads nodes1) fact.from) behind1 arc) → links2 ≡ inserted (head_at (out_heads nodes1) fact.from) links1 behind1 arc
-      → SetsIn nodes2 nodes3 old.to (head_removed (head_at (in_heads nodes2) old.to) f.in_links.items arc) → links3 ≡ removed f.in_links.items arc
-      → behind2 ≡ i_behind
+      → InLeft f arc old.to nodes2 nodes3 links3 → behind2 ≡ i_behind
       → SetsIn nodes3 nodes4 fact.to (head_inserted (head_at (in_heads nodes3) fact.to) behind2 arc) → links4 ≡ inserted (head_at (in_heads nodes3) fact.to) links3 behind2 arc
       → Shows (record (tables_of f) {
         node_stamps = node_stamps nodes4;
@@ -138,17 +145,18 @@ module _ (f : Inside) {g : Digraph} (s : Shows (tables_of f) g) (fact : Fact) (o
         stamps = stamps;
       })
       (laid_by g fact stamps)
-  shows_laid stamps nodes1 nodes2 nodes3 nodes4 links1 links2 links3 links4 behind1 behind2 valid out1 left1 is1 out2 entered2 in3 left3 is2 in4 entered4 =
-      let same : in_heads nodes2 ≡ in_heads f.nodes.items = out2.ins ∙ out1.ins in
-      let heads1 = outs_are_left nodes1 links1 out1 left1 in
-      let heads3 = ins_are_left nodes2 nodes3 links3 same in3 left3 in
-      let stamps_are : node_stamps nodes4 ≡ node_stamps f.nodes.items = in4.stamps ∙ in3.stamps ∙ out2.stamps ∙ out1.stamps in
-      let outs : out_heads nodes4 ≡ set (outs_left s arc live) fact.from (head_inserted o_head o_behind arc) =
-      in4.outs ∙ in3.outs ∙ out2.outs ∙ (λ i. set (heads1 i) fact.from (head_inserted (head_at (heads1 i) fact.from) (is1 i) arc)) in
-      let ins : in_heads nodes4 ≡ set (ins_left s arc live) fact.to (head_inserted i_head i_behind arc) =
+  shows_laid stamps {nodes2 = nodes2} {nodes3 = nodes3} {nodes4 = nodes4} {links2 = links2} {links4 = links4} valid out1 is1 out2 entered2 in3 is2 in4 entered4 =
+      let heads1 = outs_are_left r out1 in
+      let heads3 = ins_are_left r in3 in
+      let stamps_are : node_stamps nodes4 ≡ node_stamps f.nodes.items = in4.stamps ∙ in3.leaves.stamps ∙ in3.stamps in
+      let outs : out_heads nodes4 ≡ set (outs_left r.shows arc r.live) fact.from (head_inserted o_head o_behind arc) =
+      in4.outs ∙ in3.leaves.outs ∙ out2.outs ∙ (λ i. set (heads1 i) fact.from (head_inserted (head_at (heads1 i) fact.from) (is1 i) arc)) in
+      let ins : in_heads nodes4 ≡ set (ins_left r.shows arc r.live) fact.to (head_inserted i_head i_behind arc) =
       in4.ins ∙ (λ i. set (heads3 i) fact.to (head_inserted (head_at (heads3 i) fact.to) (is2 i) arc)) in
-      let out_links : links2 ≡ inserted o_head (removed f.out_links.items arc) o_behind arc = entered2 ∙ (λ i. inserted (head_at (heads1 i) fact.from) (left1 i) (is1 i) arc) in
-      let in_links : links4 ≡ inserted i_head (removed f.in_links.items arc) i_behind arc = entered4 ∙ (λ i. inserted (head_at (heads3 i) fact.to) (left3 i) (is2 i) arc) in
+      let out_links : links2 ≡ inserted o_head (removed f.out_links.items arc) o_behind arc =
+      entered2 ∙ (λ i. inserted (head_at (heads1 i) fact.from) (out1.left i) (is1 i) arc) in
+      let in_links : links4 ≡ inserted i_head (removed f.in_links.items arc) i_behind arc =
+      entered4 ∙ (λ i. inserted (head_at (heads3 i) fact.to) (in3.left i) (is2 i) arc) in
       subst (λ t. Shows t (laid_by g fact stamps))
       (λ j. record (tables_of f) {
         node_stamps = sym stamps_are j;
@@ -159,7 +167,7 @@ module _ (f : Inside) {g : Digraph} (s : Shows (tables_of f) g) (fact : Fact) (o
         arcs = slice_set f.arcs.items arc (record { live = true; from = fact.from; to = fact.to; from_at = fact.from_at; to_at = fact.to_at });
         stamps = stamps;
       })
-      (laid_shows s fact stamps live from_live to_live valid)
+      (laid_shows r.shows fact stamps r.live from_live to_live valid)
 
 -- ---- a move that is undone
 
