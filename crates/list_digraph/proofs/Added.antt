@@ -46,20 +46,21 @@ module _ (f : Inside) {g : Digraph} (s : Shows (tables_of f) g) where
   abbrev new_row : NodeRow
   new_row = record { live = true; at = f.stamps; first_out = None; first_in = None }
 
-  pub shows_reused_node : (id : ℕ) (links1 links2 : List Link) → first g.free_nodes ≡ Some id → HasRoomForNode g
-      → links1 ≡ removed f.node_links.items id → links2 ≡ inserted f.first_node links1 None id
+  pub shows_reused_node : (id : ℕ) {links1 links2 : List Link} {head free : Option ℕ} → first g.free_nodes ≡ Some id → HasRoomForNode g
+      → links1 ≡ removed f.node_links.items id → free ≡ head_removed f.free_node f.node_links.items id
+      → links2 ≡ inserted f.first_node links1 None id → head ≡ head_inserted f.first_node None id
       → Shows (record (tables_of f) {
         node_stamps = node_stamps (slice_set f.nodes.items id new_row);
         first_outs = out_heads (slice_set f.nodes.items id new_row);
         first_ins = in_heads (slice_set f.nodes.items id new_row);
         node_links = links2;
-        first_node = Some id;
-        free_node = head_removed f.free_node f.node_links.items id;
+        first_node = head;
+        free_node = free;
         live_nodes = f.live_nodes + 1;
         stamps = f.stamps + 1;
       })
       (add_node g)
-  shows_reused_node id links1 links2 free room one two =
+  shows_reused_node id {links2 = links2} {head = head} {free = free} is_free room one rest two first_is =
       let now = s.stamps_used in
       let stamps : node_stamps (slice_set f.nodes.items id new_row) ≡ set (node_stamps f.nodes.items) id (Some g.stamps) =
       map-set node_at f.nodes.items id new_row ∙ ap (λ n. set (node_stamps f.nodes.items) id (Some n)) now in
@@ -72,27 +73,27 @@ module _ (f : Inside) {g : Digraph} (s : Shows (tables_of f) g) where
         first_outs = sym outs j;
         first_ins = sym ins j;
         node_links = sym links j;
-        first_node = Some id;
-        free_node = head_removed f.free_node f.node_links.items id;
+        first_node = sym first_is j;
+        free_node = sym rest j;
         live_nodes = f.live_nodes + 1;
         stamps = sym now j + 1;
       })
-      (node_reused s id (all_but_first g.free_nodes) (first_some g.free_nodes id free) room)
+      (node_reused s id (all_but_first g.free_nodes) (first_some g.free_nodes id is_free) room)
 
-  pub shows_fresh_node : (id : ℕ) (nodes : List NodeRow) (links1 links2 : List Link) → first g.free_nodes ≡ None → HasRoomForNode g
+  pub shows_fresh_node : {id : ℕ} {nodes : List NodeRow} {links1 links2 : List Link} {head : Option ℕ} → first g.free_nodes ≡ None → HasRoomForNode g
       → id ≡ length f.nodes.items → nodes ≡ f.nodes.items ++ new_row ∷ []
-      → links1 ≡ f.node_links.items ++ loose ∷ [] → links2 ≡ inserted f.first_node links1 None id
+      → links1 ≡ f.node_links.items ++ loose ∷ [] → links2 ≡ inserted f.first_node links1 None id → head ≡ head_inserted f.first_node None id
       → Shows (record (tables_of f) {
         node_stamps = node_stamps nodes;
         first_outs = out_heads nodes;
         first_ins = in_heads nodes;
         node_links = links2;
-        first_node = Some id;
+        first_node = head;
         live_nodes = f.live_nodes + 1;
         stamps = f.stamps + 1;
       })
       (add_node g)
-  shows_fresh_node id nodes links1 links2 free room is pushed one two =
+  shows_fresh_node {id = id} {nodes = nodes} {links2 = links2} free room is pushed one two first_is =
       let now = s.stamps_used in
       let stamps : node_stamps nodes ≡ node_stamps f.nodes.items ++ Some g.stamps ∷ [] =
       ap node_stamps pushed ∙ map_push node_at f.nodes.items new_row ∙ ap (λ n. node_stamps f.nodes.items ++ Some n ∷ []) now in
@@ -107,7 +108,7 @@ module _ (f : Inside) {g : Digraph} (s : Shows (tables_of f) g) where
         first_outs = sym outs j;
         first_ins = sym ins j;
         node_links = sym links j;
-        first_node = Some (sym id_is j);
+        first_node = sym (first_is ∙ ap Some id_is) j;
         live_nodes = f.live_nodes + 1;
         stamps = sym now j + 1;
       })
@@ -119,8 +120,8 @@ module _ (f : Inside) {g : Digraph} (s : Shows (tables_of f) g) where
     abbrev row : ArcRow
     row = record { live = true; from = from; to = to; from_at = f.stamps; to_at = f.stamps }
 
-    pub shows_reused_arc : (id : ℕ) (nodes1 nodes2 : List NodeRow) (links1 links2 links3 : List Link) → first g.free_arcs ≡ Some id → HasRoomForArc g
-        → links1 ≡ removed f.out_links.items id
+    pub shows_reused_arc : {id : ℕ} {nodes1 nodes2 : List NodeRow} {links1 links2 links3 : List Link} {rest : Option ℕ} → first g.free_arcs ≡ Some id → HasRoomForArc g
+        → links1 ≡ removed f.out_links.items id → rest ≡ head_removed f.free_arc f.out_links.items id
         → SetsOut f.nodes.items nodes1 from (head_inserted (head_at (out_heads f.nodes.items) from) None id)
         → links2 ≡ inserted (head_at (out_heads f.nodes.items) from) links1 None id
         → SetsIn nodes1 nodes2 to (head_inserted (head_at (in_heads nodes1) to) None id)
@@ -132,12 +133,12 @@ module _ (f : Inside) {g : Digraph} (s : Shows (tables_of f) g) where
           arcs = slice_set f.arcs.items id row;
           out_links = links2;
           in_links = links3;
-          free_arc = head_removed f.free_arc f.out_links.items id;
+          free_arc = rest;
           live_arcs = f.live_arcs + 1;
           stamps = f.stamps + 1;
         })
         (add_arc g from to)
-    shows_reused_arc id nodes1 nodes2 links1 links2 links3 free room one out two into three =
+    shows_reused_arc {id = id} {nodes2 = nodes2} {links2 = links2} {links3 = links3} free room one rest_is out two into three =
         let now = s.stamps_used in
         let stamps : node_stamps nodes2 ≡ node_stamps f.nodes.items = into.stamps ∙ out.stamps in
         let outs : out_heads nodes2 ≡ heads_with (out_heads f.nodes.items) from id = into.outs ∙ out.outs in
@@ -153,13 +154,13 @@ module _ (f : Inside) {g : Digraph} (s : Shows (tables_of f) g) where
           arcs = slice_set f.arcs.items id (record { live = true; from = from; to = to; from_at = sym now j; to_at = sym now j });
           out_links = sym out_links j;
           in_links = sym in_links j;
-          free_arc = head_removed f.free_arc f.out_links.items id;
+          free_arc = sym rest_is j;
           live_arcs = f.live_arcs + 1;
           stamps = sym now j + 1;
         })
         (arc_reused s from to id (all_but_first g.free_arcs) from_live to_live (first_some g.free_arcs id free) room)
 
-    pub shows_fresh_arc : (id : ℕ) (arcs : List ArcRow) (nodes1 nodes2 : List NodeRow) (links0 links1 links2 links3 : List Link) → first g.free_arcs ≡ None → HasRoomForArc g
+    pub shows_fresh_arc : {id : ℕ} {arcs : List ArcRow} {nodes1 nodes2 : List NodeRow} {links0 links1 links2 links3 : List Link} → first g.free_arcs ≡ None → HasRoomForArc g
         → id ≡ length f.arcs.items → arcs ≡ f.arcs.items ++ row ∷ []
         → links0 ≡ f.out_links.items ++ loose ∷ [] → links1 ≡ f.in_links.items ++ loose ∷ []
         → SetsOut f.nodes.items nodes1 from (head_inserted (head_at (out_heads f.nodes.items) from) None id)
@@ -177,7 +178,7 @@ module _ (f : Inside) {g : Digraph} (s : Shows (tables_of f) g) where
           stamps = f.stamps + 1;
         })
         (add_arc g from to)
-    shows_fresh_arc id arcs nodes1 nodes2 links0 links1 links2 links3 free room is pushed zero_is one out two into three =
+    shows_fresh_arc {id = id} {arcs = arcs} {nodes2 = nodes2} {links2 = links2} {links3 = links3} free room is pushed zero_is one out two into three =
         let now = s.stamps_used in
         let stamps : node_stamps nodes2 ≡ node_stamps f.nodes.items = into.stamps ∙ out.stamps in
         let outs : out_heads nodes2 ≡ heads_with (out_heads f.nodes.items) from (length f.arcs.items) = into.outs ∙ out.outs ∙ ap (heads_with (out_heads f.nodes.items) from) is in

@@ -1,12 +1,12 @@
 -- What the calls of a step ask of the fields.
-use Rattle.std.proofs.Common.{◌≡◌, ℕ, ◌<◌, List, length, get_or, set, Option, sym, ap, subst, ◌∙◌, arith}
+use Rattle.std.proofs.Common.{◌≡◌, ℕ, ◌<◌, List, length, get_or, set, sym, ap, subst, ◌∙◌, arith}
 use Rattle.std.proofs.lemmas.List.{length-map}
 use Rattle.base_items.specs.declared.items.ItemSort.TheVariants as sorts
 use Rattle.linked_lists.specs.declared.lists.Link.{Link}
 use Rattle.linked_lists.specs.Links.{HasPlaces, IsPlace, link_at, removed, head_removed}
 use Rattle.linked_lists.proofs.Changes.{removed-length}
 use Rattle.plain_digraph.specs.Digraph.{Digraph}
-use Rattle.plain_digraph.specs.Items.{IsLive, source_of, target_of}
+use Rattle.plain_digraph.specs.Items.{IsLive}
 use Rattle.plain_digraph.proofs.Changes.{live_ends}
 use Rattle.list_digraph.specs.declared.graph.ListDigraph.TheInside.{Inside}
 use Rattle.list_digraph.specs.declared.rows.NodeRow.{NodeRow}

@@ -4,8 +4,7 @@ use Rattle.std.specs.Prelude.{slice_set}
 use Rattle.base_items.specs.declared.items.Fact.{Fact}
 use Rattle.base_items.specs.declared.items.ItemSort.TheVariants as sorts
 use Rattle.linked_lists.specs.declared.lists.Link.{Link}
-use Rattle.linked_lists.specs.Links.{IsPlace, AreWithin, next_from, removed, head_removed, inserted, head_inserted}
-use Rattle.linked_lists.proofs.Changes.{removed-length}
+use Rattle.linked_lists.specs.Links.{IsPlace, AreWithin, next_from, removed, inserted, head_inserted}
 use Rattle.plain_digraph.specs.Digraph.{Digraph}
 use Rattle.plain_digraph.specs.Items.{IsLive}
 use Rattle.plain_digraph.specs.Steps.{laid_by}
@@ -23,9 +22,7 @@ use Rattle.list_digraph.specs.Tables.{Shows, chain}
 use Rattle.list_digraph.specs.Places.{stamp_in, last_newer}
 use Rattle.list_digraph.specs.Inside.{tables_of}
 use Rattle.list_digraph.proofs.Columns.{out_head as read_out_head, in_head as read_in_head}
-use Rattle.list_digraph.proofs.Seen.{node_below, row_source, row_target}
 use Rattle.list_digraph.proofs.ArcSteps.{outs_left, ins_left}
-use Rattle.list_digraph.proofs.ArcMoves.{out_head_placed, in_head_placed}
 use Rattle.list_digraph.proofs.Calls.{Row, OutLeft, InLeft, node_inside, outs_are_left, ins_are_left}
 use Rattle.list_digraph.proofs.Relaid.{out_head, in_head, out_behind, in_behind, out_chain_within, in_chain_within, out_behind_placed, in_behind_placed, out_next_placed, in_next_placed, laid_shows}
 

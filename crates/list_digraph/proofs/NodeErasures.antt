@@ -1,11 +1,11 @@
 -- An erased node, and cleared tables.
-use Rattle.std.proofs.Common.{◌≡◌, ℕ, ◌-◌, ◌<◌, ◌≤◌, false, List, [], ◌∷◌, length, get_or, set, Some, None, inl, inr, sym, ap, subst, ◌∙◌, arith}
+use Rattle.std.proofs.Common.{Option, ◌≡◌, ℕ, ◌-◌, ◌<◌, ◌≤◌, false, List, [], ◌∷◌, length, get_or, set, Some, None, inl, inr, sym, ap, subst, ◌∙◌, arith}
 use Rattle.std.specs.Prelude.{◌==◌, slice_set}
 use Rattle.std.proofs.lemmas.Bool.{cases_eq, or_cases, eqb-true}
 use Rattle.std.proofs.lemmas.List.{length-set, length-map, map-set, get_or-set_same, get_or-set_other}
 use Rattle.base_items.specs.declared.items.ItemSort.TheVariants as sorts
 use Rattle.linked_lists.specs.declared.lists.Link.{Link}
-use Rattle.linked_lists.specs.Links.{IsList, IsPlace, HasPlaces, AreWithin, link_at, removed, head_removed, inserted}
+use Rattle.linked_lists.specs.Links.{IsList, IsPlace, HasPlaces, AreWithin, link_at, removed, head_removed, head_inserted, inserted}
 use Rattle.linked_lists.proofs.Ids.{in_both}
 use Rattle.linked_lists.proofs.Changes.{list_more, others_more, removed-length, inserted-length, first_place}
 use Rattle.plain_digraph.specs.Lists.{has, without}
@@ -113,19 +113,20 @@ module _ {t : Tables} {g : Digraph} (s : Shows t g) (node : ℕ) (live : IsLive 
 
 -- the fields after the calls
 module _ (f : Inside) {g : Digraph} (s : Shows (tables_of f) g) (node : ℕ) (live : IsLive g sorts.Node node) where
-  pub shows_erased_node : (old : NodeRow) (links1 links2 : List Link) → HasNoArc g node → old ≡ get_or f.nodes.items node old
-      → links1 ≡ removed f.node_links.items node → links2 ≡ inserted f.free_node links1 None node
+  pub shows_erased_node : (old : NodeRow) {links1 links2 : List Link} {head free : Option ℕ} → HasNoArc g node → old ≡ get_or f.nodes.items node old
+      → links1 ≡ removed f.node_links.items node → head ≡ head_removed f.first_node f.node_links.items node
+      → links2 ≡ inserted f.free_node links1 None node → free ≡ head_inserted f.free_node None node
       → Shows (record (tables_of f) {
         node_stamps = node_stamps (slice_set f.nodes.items node (record { live = false; at = old.at; first_out = old.first_out; first_in = old.first_in }));
         first_outs = out_heads (slice_set f.nodes.items node (record { live = false; at = old.at; first_out = old.first_out; first_in = old.first_in }));
         first_ins = in_heads (slice_set f.nodes.items node (record { live = false; at = old.at; first_out = old.first_out; first_in = old.first_in }));
         node_links = links2;
-        first_node = head_removed f.first_node f.node_links.items node;
-        free_node = Some node;
+        first_node = head;
+        free_node = free;
         live_nodes = f.live_nodes - 1;
       })
       (erase_node g node)
-  shows_erased_node old links1 links2 alone is one two =
+  shows_erased_node old {links2 = links2} alone is one head_is two free_is =
       let row : NodeRow = record { live = false; at = old.at; first_out = old.first_out; first_in = old.first_in } in
       let below = node_below s node live in
       let inside : node < length f.nodes.items = omega (arith, below, s.nodes_used, length-map f.nodes.items node_at) in
@@ -139,8 +140,8 @@ module _ (f : Inside) {g : Digraph} (s : Shows (tables_of f) g) (node : ℕ) (li
         first_outs = sym outs j;
         first_ins = sym ins j;
         node_links = sym links j;
-        first_node = head_removed f.first_node f.node_links.items node;
-        free_node = Some node;
+        first_node = sym head_is j;
+        free_node = sym free_is j;
         live_nodes = f.live_nodes - 1;
       })
       (node_erased s node live alone)
