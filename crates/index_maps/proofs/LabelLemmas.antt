@@ -14,7 +14,8 @@ use Rattle.index_maps.specs.Labels.{Owned, no_label, label_at, place_of, named, 
 use Rattle.index_maps.specs.RefViews.{with_label}
 use Rattle.index_maps.specs.LabelFacts.{Named, AreOwn, IsRead, leads}
 use Rattle.columns.proofs.ColumnLemmas.{read-value}
-use Rattle.index_maps.proofs.PlaceLemmas.{at, place_of-has}
+use Rattle.index_maps.proofs.ValueLemmas.{value_of-has}
+use Rattle.columns.specs.Views.{entry as at}
 
 pub lacks-labelled : (table : List Owned) (i : ℕ) (es : List (Entry ℕ)) → Lacks entry_id i es
     → Lacks entry_id i (labelled table es)
@@ -164,7 +165,7 @@ module _ (table : List Owned) (es : List (Entry ℕ)) (find : List ℕ → Optio
         ap (λ q. get_or table q no_label) back ∙ row in
         let n : place_of es i ≡ p + 1 = ap (place_of es) (sym (ap (λ (r : Owned). r.1) same))
         ∙ tied.found p at_row.1 in
-        let there = place_of-has i es (λ z. absurd (omega (arith, z, n))) in
+        let there = value_of-has 0 i es (λ z. absurd (omega (arith, z, n))) in
         let nz : p + 1 ≢ 0 = λ z. absurd (omega (arith, z)) in
         let y : label_at table (p + 1) ≡ Some (get_or table (p + 1 - 1) no_label).0 =
         grind (arith, common_steps, nz) in

@@ -1,8 +1,10 @@
 pub mod DegreeLemmas
-pub mod PlaceLemmas
+pub mod ValueLemmas
 pub mod TieLemmas
 pub mod LabelLemmas
 pub mod StepLemmas
+pub mod BitLemmas
+pub mod LevelLemmas
 pub mod BuildLemmas
 pub mod RefLemmas
 pub mod RefSteps

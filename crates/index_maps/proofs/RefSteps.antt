@@ -15,7 +15,8 @@ use Rattle.index_maps.specs.declared.cross_ref.CrossRef.{CrossRef}
 use Rattle.index_maps.specs.Labels.{Owned, no_label, item_at, label_at, place_of, labelled, IsTied}
 use Rattle.index_maps.specs.RefViews.{labels_of, with_label, HasLabel}
 use Rattle.index_maps.proofs.LabelLemmas.{holds}
-use Rattle.index_maps.proofs.PlaceLemmas.{at, place_of-has}
+use Rattle.index_maps.proofs.ValueLemmas.{value_of-has}
+use Rattle.columns.specs.Views.{entry as at}
 use Rattle.index_maps.proofs.TieLemmas.{shorter, removed-moved, put-removed, put-old, tied-replace}
 use Rattle.index_maps.proofs.StepLemmas.{label_there, replace-labelled, last-tied, last-labelled}
 use Rattle.index_maps.proofs.StepLemmas.{moved-has, moved-tied, moved-labelled}
@@ -50,7 +51,7 @@ module _ (r : CrossRef) (id place : ℕ) (held : Contains (entries_of r.places) 
       let l : label_at table (place_of es id) ≡ Some q.0 = ap (label_at table) f
       ∙ label_there table place nz ∙ ap (λ (x : Owned). Some x.0) e in
       subst (λ x. Contains (labelled table es) (with_label id x)) l
-      (holds table id es (place_of-has id es (λ z. nz (sym f ∙ z))))
+      (holds table id es (value_of-has 0 id es (λ z. nz (sym f ∙ z))))
 
   -- another label put last, and then in its place
   module _ (label : List ℕ) (rows : List Owned) (put : rows ≡ r.labels.entries ++ (label, id) ∷ [])

@@ -10,8 +10,9 @@ use Rattle.observe_core.specs.Items.{has_id}
 use Rattle.index_maps.specs.Labels.{Owned, no_label, label_at, item_at, place_of, labelled, IsTied}
 use Rattle.index_maps.specs.LabelFacts.{AreOwn}
 use Rattle.index_maps.specs.RefViews.{with_label}
-use Rattle.index_maps.proofs.PlaceLemmas.{at, place_of-gone, place_of-without, place_of-set}
-use Rattle.index_maps.proofs.PlaceLemmas.{place_of-other, place_of-has}
+use Rattle.index_maps.proofs.ValueLemmas.{value_of-gone, value_of-without, value_of-set}
+use Rattle.columns.specs.Views.{entry as at}
+use Rattle.index_maps.proofs.ValueLemmas.{value_of-other, value_of-has}
 use Rattle.index_maps.proofs.LabelLemmas.{relabelled, unmoved, removed}
 use Rattle.index_maps.proofs.TieLemmas.{put-old, put-new, tied-put, replace-old, replace-new}
 use Rattle.index_maps.proofs.TieLemmas.{removed-old, removed-moved, tied-removed, last-place}
@@ -48,8 +49,8 @@ module _ (table : List Owned) (es : List (Entry ℕ)) (tied : IsTied table (plac
       → IsTied (table ++ x ∷ []) (place_of (swapped entry_id (at x.1 (length table + 1)) es))
   put-tied x has none =
       tied-put table x (place_of es) (place_of (swapped entry_id (at x.1 (length table + 1)) es))
-      tied none (place_of-set x.1 (length table + 1) es has)
-      (λ j n. place_of-other x.1 (length table + 1) j es n)
+      tied none (value_of-set 0 x.1 (length table + 1) es has)
+      (λ j n. value_of-other 0 x.1 (length table + 1) j es n)
 
   pub replace-labelled : (x : Owned) (p : ℕ) → p < length table → place_of es x.1 ≡ p + 1
       → labelled (set table p x) es
@@ -95,14 +96,14 @@ module _ (table : List Owned) (es : List (Entry ℕ)) (tied : IsTied table (plac
 
       pub last-tied : IsTied (swap_remove table p x) (place_of (without_item entry_id i es))
       last-tied = tied-removed table x p l i (place_of es) (place_of (without_item entry_id i es))
-          tied e (place_of-gone i es) (λ y. absurd (omega (arith, y, k)))
-          (λ j a b. place_of-without i j es a)
+          tied e (value_of-gone 0 i es) (λ y. absurd (omega (arith, y, k)))
+          (λ j a b. value_of-without 0 i j es a)
 
     -- the last label moved
     module _ (k : p + 1 < length table) where
       pub moved-has : IsTrue (has_id entry_id (item_at table (length table)) es)
       moved-has = let q =
-          last-place table x p l i (place_of es) tied e in place_of-has
+          last-place table x p l i (place_of es) tied e in value_of-has 0
           (item_at table (length table)) es (λ z. absurd (omega (arith, q, z, k)))
 
       pub moved-labelled : labelled (swap_remove table p x) (without_item entry_id i
@@ -125,7 +126,7 @@ module _ (table : List Owned) (es : List (Entry ℕ)) (tied : IsTied table (plac
           let m = item_at table (length table) in
           let now = swapped entry_id (at m (p + 1)) es in
           tied-removed table x p l i (place_of es) (place_of (without_item entry_id i now)) tied e
-          (place_of-gone i now)
-          (λ y. place_of-without i m now (last-other table x p l i (place_of es) tied e k)
-          ∙ place_of-set m (p + 1) es moved-has)
-          (λ j a b. place_of-without i j now a ∙ place_of-other m (p + 1) j es b)
+          (value_of-gone 0 i now)
+          (λ y. value_of-without 0 i m now (last-other table x p l i (place_of es) tied e k)
+          ∙ value_of-set 0 m (p + 1) es moved-has)
+          (λ j a b. value_of-without 0 i j now a ∙ value_of-other 0 m (p + 1) j es b)

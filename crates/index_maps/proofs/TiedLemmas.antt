@@ -46,13 +46,13 @@ module _ (n i : ℕ) where
   none-ended (e ∷ es) h =
       elim (e.id == n) as (λ b. (e.id == n) ≡ b
       → HasNoneBelow (n + 1) i
-        (ties_in (if b then without_item entry_id n es else e ∷ without_item entry_id n es))) [
+      (ties_in (if b then without_item entry_id n es else e ∷ without_item entry_id n es))) [
         | true ↦ λ t. none-ended es h.1
         | false ↦ λ t. (
-            (λ b. let other : e.id ≢ n = λ s. grind (arith, common_steps, t, s) in
+          (λ b. let other : e.id ≢ n = λ s. grind (arith, common_steps, t, s) in
               h.0 (omega (arith, b, other))),
-            none-ended es h.1,
-          )
+          none-ended es h.1,
+        )
       ] refl
 
   pub rest-ended : (es : List (Entry ℕ)) → HoldsOnly entry_id (entry n i) es
@@ -63,8 +63,8 @@ module _ (n i : ℕ) where
       let r = rest-ended es o.1 in
       elim (e.id == n) as (λ b. (e.id == n) ≡ b
       → without_item tied_id i
-        (ties_in (if b then without_item entry_id n es else e ∷ without_item entry_id n es))
-        ≡ without_item tied_id i (ties_in (e ∷ es))) [
+      (ties_in (if b then without_item entry_id n es else e ∷ without_item entry_id n es))
+      ≡ without_item tied_id i (ties_in (e ∷ es))) [
         | true ↦ λ t.
             let same : e.id ≡ n = grind (arith, common_steps, t) in
             let u : e.value ≡ i = ap (λ (x : Entry ℕ). x.value) (o.0 same) in

@@ -1,7 +1,8 @@
 -- Labels in a table, each with its item, beside the place in the table of each item's label.
-use Rattle.std.specs.Prelude.{◌≡◌, ◌≢◌, ℕ, ◌+◌, ◌-◌, ◌<◌, ◌≤◌, ◌==◌, if◌then◌else◌, List, [], ◌∷◌}
+use Rattle.std.specs.Prelude.{◌≡◌, ◌≢◌, ℕ, ◌+◌, ◌-◌, ◌<◌, ◌≤◌, ◌==◌, if◌then◌else◌, List, []}
 use Rattle.std.specs.Prelude.{length, map, slice_index_or, Option, Some, None}
 use Rattle.observe_core.specs.Held.{Entry}
+use Rattle.index_maps.specs.Lookup.{value_of}
 
 -- a label with its item
 abbrev pub Owned : Type 0
@@ -12,8 +13,7 @@ no_label = ([], 0)
 
 -- the place of an item's label: 0 where it has none, and else one above the index in the table
 abbrev pub place_of : List (Entry ℕ) → ℕ → ℕ
-place_of [] i = 0
-place_of (e ∷ es) i = if e.id == i then e.value else place_of es i
+place_of = value_of 0
 
 abbrev pub label_at : List Owned → ℕ → Option (List ℕ)
 label_at table place =

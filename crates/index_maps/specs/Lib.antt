@@ -1,13 +1,17 @@
+pub mod Bits
+pub mod BitViews
 pub mod Counted
 pub mod DegreeViews
 pub mod Expanding
 pub mod DegreeSound
+pub mod Lookup
 pub mod Labels
 pub mod LabelFacts
 pub mod RefViews
 pub mod RefSound
 pub mod Trues
 pub mod TrueViews
+pub mod TrueSound
 pub mod TieEntries
 pub mod TieViews
 pub mod TieSound

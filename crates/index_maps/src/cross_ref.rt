@@ -15,8 +15,8 @@ use token_text::Text;
 
 /// A label for some live items, no label twice.
 ///
-/// A label stands once, in the table, beside its item. The place of an item is 0 where it has no label, and
-/// else one above the index of its label.
+/// A label stands once, in the table, beside its item. The place of an item is 0 where it has no
+/// label, and else one above the index of its label.
 #[derive(Drop)]
 pub struct CrossRef {
     places: Column<usize>,
@@ -26,14 +26,18 @@ pub struct CrossRef {
 }
 
 impl CrossRef {
-    ghost use Rattle.std.specs.Prelude.{◌≡◌, ◌+◌, ◌<◌, ◌≤◌, [], map, Some, None, OnOk, OnErr, MatchOption, Contains};
+    ghost use Rattle.std.specs.Prelude.{◌≡◌, ◌+◌, ◌<◌, ◌≤◌, [], map, Some, None, OnOk, OnErr};
+    ghost use Rattle.std.specs.Prelude.{MatchOption};
     ghost use Rattle.observe_core.specs.Facts.{HasDistinctIds, AllInBounds};
     ghost use Rattle.observe_core.specs.Held.{entry_id, Labels};
     ghost use Rattle.plain_digraph.specs.Rising.{with_item, without_item, swapped};
     ghost use Rattle.observe_core.specs.Items.{Lacks, place_all};
     ghost use Rattle.observe_core.specs.Told.{new_entry};
-    ghost use Rattle.index_maps.specs.RefViews.{labels_of, refs_seen, holding_labels, room_of, with_label, HasLabel, HasSomeLabel, HasNoLabel, IsFreeLabel};
+    ghost use Rattle.index_maps.specs.RefViews.{labels_of, refs_seen, holding_labels, room_of};
+    ghost use Rattle.index_maps.specs.RefViews.{with_label, HasLabel, HasSomeLabel, HasNoLabel};
+    ghost use Rattle.index_maps.specs.RefViews.{IsFreeLabel};
 
+    /// No items.
     pub fn new(alloc: Global) -> CrossRef
         ensures { refs_seen result ≡ holding_labels [] }
     {
@@ -43,7 +47,7 @@ impl CrossRef {
         }
     }
 
-    /// Makes room for a label that isn't there.
+    /// Makes room for a label that isn't there. The error is want of memory; all is then as before.
     pub fn reserve(&mut self, label: &Text) -> Result<(), AllocError>
         requires { IsFreeLabel label.now (labels_of self.old) }
         ensures same { refs_seen self.new ≡ refs_seen self.old }
@@ -54,12 +58,13 @@ impl CrossRef {
         self.labels.reserve(1)
     }
 
-    /// Gives a label that isn't there to a live item without one.
+    /// Gives a label that isn't there to a live item without one. It takes the room of one label.
     pub fn put(&mut self, id: u32, label: Text)
         requires live { HasLabel id None (labels_of self.old) }
         requires free { IsFreeLabel label (labels_of self.old) }
         requires room { 1 ≤ room_of self.old }
-        ensures seen { refs_seen self.new ≡ holding_labels (swapped entry_id (with_label id (Some label)) (labels_of self.old)) }
+        ensures seen { refs_seen self.new ≡ holding_labels
+            (swapped entry_id (with_label id (Some label)) (labels_of self.old)) }
         ensures room { room_of self.old ≤ room_of self.new + 1 }
     {
         let place = self.labels.len() + 1;
@@ -70,12 +75,14 @@ impl CrossRef {
         self.places.set(id, place);
     }
 
-    /// Gives another label, which isn't there, to an item with one. The old label.
+    /// Gives another label, which isn't there, to an item with one. The old label. It takes the
+    /// room of one label.
     pub fn replace(&mut self, id: u32, label: Text) -> Text
         requires labelled { HasSomeLabel id (labels_of self.old) }
         requires free { IsFreeLabel label (labels_of self.old) }
         requires room { 1 ≤ room_of self.old }
-        ensures seen { refs_seen self.new ≡ holding_labels (swapped entry_id (with_label id (Some label)) (labels_of self.old)) }
+        ensures seen { refs_seen self.new ≡ holding_labels
+            (swapped entry_id (with_label id (Some label)) (labels_of self.old)) }
         ensures old { HasLabel id (Some result) (labels_of self.old) }
         ensures room { room_of self.old ≤ room_of self.new + 1 }
     {
@@ -123,7 +130,8 @@ impl CrossRef {
     fn add_item(&mut self, id: u32) -> Result<(), AllocError>
         requires bounded { id < 4194304 }
         requires free { Lacks entry_id id (labels_of self.old) }
-        ensures ok { OnOk result (refs_seen self.new ≡ holding_labels (with_item entry_id (new_entry Labels id) (labels_of self.old))) }
+        ensures ok { OnOk result (refs_seen self.new
+            ≡ holding_labels (with_item entry_id (new_entry Labels id) (labels_of self.old))) }
         ensures err { OnErr result (refs_seen self.new ≡ refs_seen self.old) }
         ensures room { room_of self.old ≤ room_of self.new }
     {
@@ -132,7 +140,8 @@ impl CrossRef {
 
     /// An item less, and its label. The last label takes the place of its own.
     fn take(&mut self, id: u32)
-        ensures seen { refs_seen self.new ≡ holding_labels (without_item entry_id id (labels_of self.old)) }
+        ensures seen { refs_seen self.new
+            ≡ holding_labels (without_item entry_id id (labels_of self.old)) }
         ensures room { room_of self.old ≤ room_of self.new }
     {
         let place = match self.places.find(id) {
@@ -161,13 +170,15 @@ impl CrossRef {
         requires empty { labels_of self.old ≡ [] }
         requires distinct { HasDistinctIds all.now }
         requires bounded { AllInBounds all.now }
-        ensures ok { OnOk result (refs_seen self.new ≡ holding_labels (place_all entry_id (map (λ f. new_entry Labels f.id) all.now) [])) }
+        ensures ok { OnOk result (refs_seen self.new
+            ≡ holding_labels (place_all entry_id (map (λ f. new_entry Labels f.id) all.now) [])) }
         ensures err { OnErr result (refs_seen self.new ≡ holding_labels []) }
         ensures room { room_of self.old ≤ room_of self.new }
     {
         self.places.fill(all, 0)
     }
 
+    /// No items any more.
     fn reset(&mut self)
         ensures seen { refs_seen self.new ≡ holding_labels [] }
         ensures room { room_of self.old ≤ room_of self.new }
@@ -181,7 +192,13 @@ impl Observer for CrossRef {
     ghost use Rattle.index_maps.specs.RefViews.{refs_seen, room_of};
     ghost use Rattle.index_maps.specs.RefSound.{refs-sound, refs-reach};
 
-    ghost watch = { λ r. record { seen = refs_seen r; room = room_of r; reach = 0; sound = refs-sound r; reaches = refs-reach r } };
+    ghost watch = { λ r. record {
+      seen = refs_seen r;
+      room = room_of r;
+      reach = 0;
+      sound = refs-sound r;
+      reaches = refs-reach r;
+    } };
 
     fn kind(&self) -> Kind {
         Kind::Map

@@ -4,7 +4,7 @@ use base_items::Fact;
 use observe_core::{After, Kind, Observer, Readout, Veto};
 use std::alloc::{AllocError, Global};
 
-/// The degree of each node, by the arcs that were told.
+/// The degree of each node by the arcs that were told: how many go from it, or to it.
 #[derive(Drop)]
 pub struct Degree {
     out: bool,
@@ -12,14 +12,16 @@ pub struct Degree {
 }
 
 impl Degree {
-    ghost use Rattle.std.specs.Prelude.{◌≡◌, ℕ, ◌<◌, ◌≤◌, OnOk, OnErr, IsOk, [], length, IsTrue, vec_len};
+    ghost use Rattle.std.specs.Prelude.{◌≡◌, ◌<◌, ◌≤◌, OnOk, OnErr, IsOk, [], vec_len};
     ghost use Rattle.observe_core.specs.Facts.{end_of};
     ghost use Rattle.observe_core.specs.Held.{Degree as DegreeHeld};
     ghost use Rattle.observe_core.specs.Seen.{map_seen};
     ghost use Rattle.observe_core.specs.Items.{put_number, drop_number};
-    ghost use Rattle.index_maps.specs.Counted.{how_often, turned};
-    ghost use Rattle.index_maps.specs.DegreeViews.{degree_seen, ends_of_degree, reach_of};
+    ghost use Rattle.index_maps.specs.Counted.{how_often};
+    ghost use Rattle.index_maps.specs.DegreeViews.{degree_seen, ends_of_degree, turned_ends};
+    ghost use Rattle.index_maps.specs.DegreeViews.{reach_of};
 
+    /// No arcs. They are counted at their sources if `out`, and else at their targets.
     pub fn new(out: bool, alloc: Global) -> Degree
         ensures { degree_seen result ≡ map_seen (DegreeHeld out []) }
     {
@@ -29,7 +31,7 @@ impl Degree {
         }
     }
 
-    /// How many arcs a node has.
+    /// How many arcs that were told go from the node, or to it.
     pub fn get(&self, node: u32) -> u32
         ensures { result ≡ how_often node (ends_of_degree self.now) }
     {
@@ -40,6 +42,7 @@ impl Degree {
         0
     }
 
+    /// The end by which an arc is counted.
     fn end(&self, f: &Fact) -> u32
         ensures { result ≡ end_of self.now.out f.now }
     {
@@ -65,7 +68,8 @@ impl Degree {
     fn raise(&mut self, node: u32) -> Result<(), AllocError>
         requires bounded { node < 4194304 }
         requires small { how_often node (ends_of_degree self.old) < 4294967295 }
-        ensures ok { OnOk result (degree_seen self.new ≡ map_seen (DegreeHeld self.old.out (put_number node (ends_of_degree self.old)))) }
+        ensures ok { OnOk result (degree_seen self.new
+            ≡ map_seen (DegreeHeld self.old.out (put_number node (ends_of_degree self.old)))) }
         ensures err { OnErr result (degree_seen self.new ≡ degree_seen self.old) }
         ensures succeeds { node < reach_of self.old → IsOk result }
         ensures reach { reach_of self.old ≤ reach_of self.new }
@@ -77,7 +81,8 @@ impl Degree {
 
     /// One arc less at a node.
     fn lower(&mut self, node: u32)
-        ensures seen { degree_seen self.new ≡ map_seen (DegreeHeld self.old.out (drop_number node (ends_of_degree self.old))) }
+        ensures seen { degree_seen self.new
+            ≡ map_seen (DegreeHeld self.old.out (drop_number node (ends_of_degree self.old))) }
         ensures reach { reach_of self.old ≤ reach_of self.new }
     {
         let at = node as usize;
@@ -90,8 +95,10 @@ impl Degree {
     fn turn(&mut self, old: &Fact, new: &Fact)
         requires bounded { end_of self.old.out new.now < 4194304 }
         requires room { end_of self.old.out new.now < reach_of self.old }
-        requires small { how_often (end_of self.old.out new.now) (turned (end_of self.old.out old.now) (end_of self.old.out new.now) (ends_of_degree self.old)) ≤ 4294967295 }
-        ensures seen { degree_seen self.new ≡ map_seen (DegreeHeld self.old.out (turned (end_of self.old.out old.now) (end_of self.old.out new.now) (ends_of_degree self.old))) }
+        requires small { how_often (end_of self.old.out new.now)
+            (turned_ends self.old old.now new.now) ≤ 4294967295 }
+        ensures seen { degree_seen self.new
+            ≡ map_seen (DegreeHeld self.old.out (turned_ends self.old old.now new.now)) }
         ensures reach { reach_of self.old ≤ reach_of self.new }
     {
         let from = self.end(old);
@@ -115,7 +122,13 @@ impl Observer for Degree {
     ghost use Rattle.index_maps.specs.DegreeViews.{degree_seen, reach_of};
     ghost use Rattle.index_maps.specs.DegreeSound.{degree-sound, degree-reaches};
 
-    ghost watch = { λ d. record { seen = degree_seen d; room = 0; reach = reach_of d; sound = degree-sound d; reaches = degree-reaches d } };
+    ghost watch = { λ d. record {
+      seen = degree_seen d;
+      room = 0;
+      reach = reach_of d;
+      sound = degree-sound d;
+      reaches = degree-reaches d;
+    } };
 
     fn kind(&self) -> Kind {
         Kind::Map

@@ -1,10 +1,12 @@
-//! Maps that follow the digraph: degrees, and labels found either way.
+//! Labels found either way, degrees, true items and ties, each an observer of the digraph.
 #![tactic(auto)]
 
+mod bits;
 mod cross_ref;
 mod degree;
 mod ties;
 mod trues;
+mod words;
 
 pub use cross_ref::CrossRef;
 pub use degree::Degree;

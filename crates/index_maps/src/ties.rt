@@ -92,7 +92,12 @@ impl Observer for Ties {
     ghost use Rattle.index_maps.specs.TieSound.{ties-sound, ties-reach};
 
     ghost watch = { λ t. record {
-        seen = ties_seen t; room = 0; reach = 0; sound = ties-sound t; reaches = ties-reach t } };
+      seen = ties_seen t;
+      room = 0;
+      reach = 0;
+      sound = ties-sound t;
+      reaches = ties-reach t;
+    } };
 
     fn kind(&self) -> Kind {
         Kind::Map

@@ -1,90 +1,144 @@
-//! Trues of live items.
+//! Which live items are true.
 
+ghost use Rattle.std.specs.Prelude.{◌≡◌, ℕ, ◌*◌, ◌≤◌, false};
+ghost use Rattle.columns.specs.Views.{entries_of, extent_of};
+ghost use Rattle.index_maps.specs.Lookup.{value_of};
+ghost use Rattle.index_maps.specs.BitViews.{is_marked, words_of};
+ghost use Rattle.index_maps.specs.Trues.{low_after};
+
+use crate::bits::Bits;
 use base_items::Fact;
 use columns::Column;
 use observe_core::{After, Kind, Observer, Readout, Veto};
 use std::alloc::{AllocError, Global};
 
-/// Whether each live item is true.
+/// Whether each live item is true, false for a new one. The true ones are also kept as a set of
+/// bits, by which the next one is found in a few steps.
 #[derive(Drop)]
 pub struct TrueItems {
     column: Column<bool>,
+    bits: Bits,
+    ghost marked: { (k : ℕ) → is_marked bits k ≡ value_of false (entries_of column) k },
+    ghost covered: { extent_of column ≤ 64 * words_of bits },
+}
+
+// The least place that may come next.
+fn place_after(after: Option<u32>) -> usize
+    ensures place { result ≡ low_after after }
+    ensures small { result ≤ 4294967296 }
+{
+    match after {
+        None => 0,
+        Some(id) => id as usize + 1,
+    }
 }
 
 impl TrueItems {
-    ghost use Rattle.std.specs.Prelude.{◌≡◌, ℕ, ◌<◌, IsTrue, [], map, OnOk, OnErr, Contains};
-    ghost use Rattle.observe_core.specs.Facts.{HasDistinctIds, AllInBounds};
-    ghost use Rattle.observe_core.specs.Held.{entry_id, Trues};
+    ghost use Rattle.std.specs.Prelude.{◌<◌, IsTrue, [], map, OnOk, OnErr};
     ghost use Rattle.plain_digraph.specs.Rising.{with_item, without_item, swapped};
+    ghost use Rattle.observe_core.specs.Facts.{HasDistinctIds};
+    ghost use Rattle.observe_core.specs.Held.{entry_id, Trues};
     ghost use Rattle.observe_core.specs.Items.{Lacks, place_all, has_id};
     ghost use Rattle.observe_core.specs.Told.{new_entry};
-    ghost use Rattle.columns.specs.Views.{entries_of, entry};
-    ghost use Rattle.index_maps.specs.Trues.{first_true, low_after};
-    ghost use Rattle.index_maps.specs.TrueViews.{trues_seen, holding_trues};
+    ghost use Rattle.columns.specs.Views.{entry};
+    ghost use Rattle.index_maps.specs.Trues.{first_true};
+    ghost use Rattle.index_maps.specs.TrueViews.{trues_of, trues_seen, holding_trues};
 
+    /// No items.
     pub fn new(alloc: Global) -> TrueItems
         ensures { trues_seen result ≡ holding_trues [] }
     {
         TrueItems {
             column: Column::new(alloc),
+            bits: Bits::new(alloc),
         }
     }
 
-    /// The least true item above one, or the least.
+    /// The least true item above one, or the least. None exactly where there is none.
     pub fn next(&self, after: Option<u32>) -> Option<u32>
-        ensures { result ≡ first_true (low_after after) (entries_of self.now.column) }
+        ensures { result ≡ first_true (low_after after) (trues_of self.now) }
     {
-        let live = self.column.live();
-        let values = self.column.values();
-        let mut at = match after {
-            None => 0,
-            Some(id) => id as usize + 1,
-        };
-        while at < live.len() {
-            if live[at] {
-                if values[at] {
-                    return Some(at as u32);
-                }
-            }
-            at += 1;
+        match self.bits.first(place_after(after)) {
+            None => None,
+            Some(at) => Some(at as u32),
         }
-        None
     }
 
     /// Writes whether a live item is true.
     pub fn write(&mut self, id: u32, value: bool)
-        requires { IsTrue (has_id entry_id id (entries_of self.old.column)) }
-        ensures { trues_seen self.new ≡ holding_trues (swapped entry_id (entry id value) (entries_of self.old.column)) }
+        requires { IsTrue (has_id entry_id id (trues_of self.old)) }
+        ensures { trues_seen self.new
+            ≡ holding_trues (swapped entry_id (entry id value) (trues_of self.old)) }
     {
         self.column.set(id, value);
+        self.bits.mark(id, value);
     }
 
-    /// An item more, with false.
+    /// An item more, which isn't true.
     fn put(&mut self, id: u32) -> Result<(), AllocError>
-        requires bounded { id < 4194304 }
-        requires free { Lacks entry_id id (entries_of self.old.column) }
-        ensures ok { OnOk result (trues_seen self.new ≡ holding_trues (with_item entry_id (new_entry Trues id) (entries_of self.old.column))) }
-        ensures err { OnErr result (trues_seen self.new ≡ trues_seen self.old) }
+        requires { Lacks entry_id id (trues_of self.old) }
+        ensures ok { OnOk result
+            (trues_of self.new ≡ with_item entry_id (new_entry Trues id) (trues_of self.old)) }
+        ensures err { OnErr result (trues_of self.new ≡ trues_of self.old) }
     {
-        self.column.put(id, false)
+        self.bits.reach(id)?;
+        self.column.put(id, false)?;
+        Ok(())
     }
 
-    /// All items of a build, with false.
-    fn fill(&mut self, all: &[Fact]) -> Result<(), AllocError>
-        requires empty { entries_of self.old.column ≡ [] }
-        requires distinct { HasDistinctIds all.now }
-        requires bounded { AllInBounds all.now }
-        ensures ok { OnOk result (trues_seen self.new ≡ holding_trues (place_all entry_id (map (λ f. new_entry Trues f.id) all.now) [])) }
-        ensures err { OnErr result (trues_seen self.new ≡ holding_trues []) }
+    /// An item less.
+    fn take(&mut self, id: u32)
+        ensures { trues_of self.new ≡ without_item entry_id id (trues_of self.old) }
     {
-        self.column.fill(all, false)
+        match self.column.find(id) {
+            None => {}
+            Some(_) => {
+                self.column.take(id, false);
+                self.bits.mark(id, false);
+            }
+        }
+    }
+
+    /// All items of a build, none of them true.
+    fn fill(&mut self, all: &[Fact]) -> Result<(), AllocError>
+        requires empty { trues_of self.old ≡ [] }
+        requires distinct { HasDistinctIds all.now }
+        ensures ok { OnOk result (trues_of self.new
+            ≡ place_all entry_id (map (λ f. new_entry Trues f.id) all.now) []) }
+        ensures err { OnErr result (trues_of self.new ≡ []) }
+    {
+        for f in all {
+            match self.put(f.id) {
+                Ok(()) => {}
+                Err(_) => {
+                    self.reset();
+                    return Err(AllocError);
+                }
+            }
+        }
+        Ok(())
+    }
+
+    /// No items any more.
+    fn reset(&mut self)
+        ensures { trues_of self.new ≡ [] }
+    {
+        self.column.clear();
+        self.bits.clear();
     }
 }
 
 impl Observer for TrueItems {
-    ghost use Rattle.index_maps.specs.TrueViews.{trues_seen, trues-sound, trues-reach};
+    ghost use Rattle.index_maps.specs.TrueViews.{trues_seen};
+    ghost use Rattle.index_maps.specs.TrueSound.{trues-sound, trues-reach};
 
-    ghost watch = { λ m. record { seen = trues_seen m; room = 0; reach = 0; sound = trues-sound m; reaches = trues-reach m } };
+    ghost watch = { λ m. record {
+      seen = trues_seen m;
+      room = 0;
+      reach = 0;
+      sound = trues-sound m;
+      reaches = trues-reach m;
+    } };
 
     fn kind(&self) -> Kind {
         Kind::Map
@@ -113,7 +167,7 @@ impl Observer for TrueItems {
     }
 
     fn undo_add(&mut self, f: Fact) {
-        self.column.take(f.id, false);
+        self.take(f.id);
     }
 
     fn shift(&mut self, old: Fact, new: Fact) -> Result<(), Veto> {
@@ -133,16 +187,16 @@ impl Observer for TrueItems {
     }
 
     fn undo_build(&mut self) {
-        self.column.clear();
+        self.reset();
     }
 
     fn erase(&mut self, f: Fact) -> After {
-        self.column.take(f.id, false);
+        self.take(f.id);
         After::Keep
     }
 
     fn clear(&mut self) -> After {
-        self.column.clear();
+        self.reset();
         After::Keep
     }
 }

@@ -2,7 +2,7 @@ use Rattle.std.proofs.Common.{◌∙◌, ap}
 use Rattle.columns.specs.Views.{entries_of}
 use Rattle.index_maps.specs.Labels.{place_of, labelled}
 use Rattle.index_maps.specs.RefViews.{holding_labels}
-use Rattle.index_maps.proofs.PlaceLemmas.{place_of-more}
+use Rattle.index_maps.proofs.ValueLemmas.{value_of-more}
 use Rattle.index_maps.proofs.TieLemmas.{tied-same}
 use Rattle.index_maps.proofs.RefLemmas.{on_ok, either}
 use Rattle.index_maps.proofs.LabelLemmas.{labelled-lacks, labelled-place}
@@ -21,7 +21,7 @@ invariant_of-self c =
     record {
       tied = tied-same table (place_of es) (place_of now)
           (λ j. either c.put.result c.put.ensures.ok c.put.ensures.err
-          (λ q. ap (λ xs. place_of xs j) q ∙ place_of-more c.args.id j es lacks)
+          (λ q. ap (λ xs. place_of xs j) q ∙ value_of-more 0 c.args.id j es lacks)
           (λ q. ap (λ xs. place_of xs j) q))
           self.tied;
       unique = self.unique;

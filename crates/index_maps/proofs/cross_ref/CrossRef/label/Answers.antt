@@ -8,7 +8,7 @@ use Rattle.columns.specs.Views.{entries_of}
 use Rattle.index_maps.specs.Labels.{Owned, no_label, label_at, labelled, place_of}
 use Rattle.index_maps.specs.RefViews.{with_label}
 use Rattle.index_maps.proofs.LabelLemmas.{lacks-labelled, holds}
-use Rattle.index_maps.proofs.PlaceLemmas.{place_of-has}
+use Rattle.index_maps.proofs.ValueLemmas.{value_of-has}
 use Rattle.index_maps.proofs.StepLemmas.{label_there}
 use Rattle.index_maps.proofs.RefLemmas.{read_place}
 use Rattle.index_maps.proofs.cross_ref.CrossRef.label.Goals as goal
@@ -44,4 +44,4 @@ returns c =
     ap (label_at table) e ∙ label_there table place c.if-place-eq0.false
     ∙ ap (λ (x : Owned). Some x.0) r in
     subst (λ x. Contains (labelled table es) (with_label id x)) l
-    (holds table id es (place_of-has id es nz))
+    (holds table id es (value_of-has 0 id es nz))

@@ -10,7 +10,7 @@ use Rattle.observe_core.proofs.ItemLemmas.{without-lacks}
 use Rattle.columns.specs.Views.{entries_of}
 use Rattle.index_maps.specs.Labels.{Owned, place_of, labelled}
 use Rattle.index_maps.specs.RefViews.{labels_of, holding_labels}
-use Rattle.index_maps.proofs.PlaceLemmas.{place_of-gone, place_of-without}
+use Rattle.index_maps.proofs.ValueLemmas.{value_of-gone, value_of-without}
 use Rattle.index_maps.proofs.TieLemmas.{tied-same}
 use Rattle.index_maps.proofs.LabelLemmas.{lacks-labelled, labelled-without}
 use Rattle.index_maps.proofs.RefLemmas.{read_place}
@@ -35,9 +35,9 @@ invariant_of-self c =
     record {
       tied = tied-same self.labels.entries (place_of es) (place_of (entries_of c.take.new.self))
           (λ j. ap (λ xs. place_of xs j) c.take.ensures.entries ∙ ⊎_elim
-          (λ (q : j ≡ id). ap (place_of (without_item entry_id id es)) q ∙ place_of-gone id es
+          (λ (q : j ≡ id). ap (place_of (without_item entry_id id es)) q ∙ value_of-gone 0 id es
           ∙ sym (ap (place_of es) q ∙ e ∙ c.if-place-eq0.true))
-          (λ (d : j ≢ id). place_of-without id j es d)
+          (λ (d : j ≢ id). value_of-without 0 id j es d)
           (cases_eq j id))
           self.tied;
       unique = self.unique;

@@ -1,6 +1,6 @@
-use Rattle.std.proofs.Common.{◌≡◌, ◌≢◌, ◌+◌, ◌∙◌, List, ap, sym, subst, arith}
+use Rattle.std.proofs.Common.{◌≡◌, ◌≢◌, ◌+◌, ◌∙◌, ap, sym, subst}
 use Rattle.plain_digraph.specs.Rising.{without_item}
-use Rattle.observe_core.specs.Held.{Tie, Entry, entry_id, tied_id}
+use Rattle.observe_core.specs.Held.{entry_id, tied_id}
 use Rattle.observe_core.specs.Items.{HoldsOnly}
 use Rattle.observe_core.proofs.ItemLemmas.{holds_only}
 use Rattle.columns.specs.Sound.{column-rises}
@@ -19,7 +19,7 @@ returns-then-item-id-clause-rest c =
     let es = entries_of column in
     let n = c.args.tie in
     let only = holds_only entry_id 0 (entry n c.in-Some.item) es
-        (column-rises column.live.items column.values.items) c.in-Some.ensures in
+    (column-rises column.live.items column.values.items) c.in-Some.ensures in
     let same : c.in-Some.item ≡ c.args.id = c.if-item-id.true in
     ap (λ xs. without_item tied_id c.args.id (ties_in xs)) c.take.ensures.entries
     ∙ rest-ended n c.args.id es (subst (λ v. HoldsOnly entry_id (entry n v) es) same only)
@@ -36,6 +36,6 @@ returns-else-item-id-clause-ended c =
     let es = entries_of column in
     let n = c.args.tie in
     let only = holds_only entry_id 0 (entry n c.in-Some.item) es
-        (column-rises column.live.items column.values.items) c.in-Some.ensures in
+    (column-rises column.live.items column.values.items) c.in-Some.ensures in
     let other : c.in-Some.item ≢ c.args.id = c.if-item-id.false in
     none-other n c.args.id c.in-Some.item es other only

@@ -1,4 +1,4 @@
-use Rattle.std.proofs.Common.{◌≡◌, ◌∙◌, List, ap}
+use Rattle.std.proofs.Common.{◌∙◌, List, ap}
 use Rattle.observe_core.specs.Held.{Ties as TiesHeld, Tie, tie_id}
 use Rattle.observe_core.specs.Seen.{map_seen}
 use Rattle.observe_core.proofs.ItemLemmas.{map-place, lacks-map}

@@ -1,51 +1,30 @@
-use Rattle.std.proofs.Common.{◌≡◌, ◌≤◌, ◌+◌, ◌∙◌, true, false, length, get_or, refl, sym, ap, arith}
-use Rattle.std.proofs.Common.{true≢false}
-use Rattle.index_maps.proofs.TrueLemmas.{past_end, passed, met}
+use Rattle.std.proofs.Common.{◌≡◌, ℕ, ◌≤◌, false, None, Some, subst, sym, ◌∙◌}
+use Rattle.columns.specs.Sound.{column-rises}
+use Rattle.index_maps.specs.BitViews.{is_marked}
+use Rattle.index_maps.specs.Lookup.{value_of}
+use Rattle.index_maps.specs.TrueViews.{trues_of}
+use Rattle.index_maps.specs.Trues.{first_true}
+use Rattle.index_maps.proofs.TrueLemmas.{none_true, first_is_true}
+use Rattle.index_maps.proofs.LevelLemmas.{first_same}
 use Rattle.index_maps.proofs.trues.TrueItems.next.Goals as goal
-use Rattle.index_maps.proofs.trues.TrueItems.next.Goals.{then-live-at+else-values-at, else-live-at}
 
-pub returns-then-values-at : goal.returns-then-values-at
-returns-then-values-at c =
-    let column = c.args.self.now.column in
-    let was = c.loop-at.invariant in
-    let at = c.loop-at.at in
-    let t : get_or column.live.items at false ≡ true = ap (λ xs. get_or xs at false) (sym was.live)
-    ∙ c.if-live-at.true in
-    let u : get_or column.values.items at false ≡ true =
-    ap (λ xs. get_or xs at false) (sym was.values) ∙ c.if-values-at.true in
-    sym (was.same ∙ met 0 at at column.live.items column.values.items (omega arith) t u)
+pub returns-in-None : goal.returns-in-None
+returns-in-None c =
+    let self = c.args.self.now in
+    let low = c.place_after.result in
+    let es = trues_of self in
+    let none : (k : ℕ) → low ≤ k → value_of false es k ≡ false = λ k l. sym (self.marked k)
+    ∙ c.in-None.ensures k l in
+    subst (λ n. None ≡ first_true n es) c.place_after.ensures.place
+    (sym (none_true 0 low es (column-rises self.column.live.items self.column.values.items) none))
 
-pub loop-at-preserved : goal.loop-at-preserved
-loop-at-preserved c =
-    let column = c.args.self.now.column in
-    let was = c.loop-at.invariant in
-    let at = c.loop-at.at in
-    let covered : length column.live.items ≤ length column.values.items =
-    omega (arith, column.covered) in
-    let dead : get_or column.live.items at false ≡ true
-    → get_or column.values.items at false ≡ false =
-    elim c.if-live-at.branch [
-      | then-live-at+else-values-at w ↦ λ h. ap (λ xs. get_or xs at false) (sym was.values)
-          ∙ w.if-values-at.false
-      | else-live-at w ↦ λ h.
-          absurd (true≢false
-          (sym h ∙ ap (λ xs. get_or xs at false) (sym was.live) ∙ w.if-live-at.false))
-    ] in
-    record {
-      same = was.same
-          ∙ passed 0 at at (at + 1) column.live.items column.values.items (omega arith) refl dead
-          covered;
-      live = was.live;
-      values = was.values;
-    }
-
-pub returns : goal.returns
-returns c =
-    let column = c.args.self.now.column in
-    let was = c.loop-at.invariant in
-    let covered : length column.live.items ≤ length column.values.items =
-    omega (arith, column.covered) in
-    let n = ap length was.live in
-    sym (was.same
-    ∙ past_end 0 c.loop-at.at column.live.items column.values.items
-    (omega (arith, n, c.loop-at-test.false)) covered)
+pub returns-in-Some : goal.returns-in-Some
+returns-in-Some c =
+    let self = c.args.self.now in
+    let low = c.place_after.result in
+    let es = trues_of self in
+    let f = first_same (is_marked self.bits) (value_of false es) self.marked low c.in-Some.at
+    c.in-Some.ensures in
+    subst (λ n. Some c.in-Some.at ≡ first_true n es) c.place_after.ensures.place
+    (sym (first_is_true 0 low c.in-Some.at es
+    (column-rises self.column.live.items self.column.values.items) f))
