@@ -13,4 +13,5 @@ pub attributes_appended : (front opened out : List ℕ) (attributes : List (List
 attributes_appended front opened out [] some opened_is out_is = absurd (cc)
 attributes_appended front opened out (attribute ∷ attributes) some opened_is out_is =
     let texts = flat_map ended (map attribute_text (attribute ∷ attributes)) in
-    out_is ∙ ap (λ own. own ++ texts) opened_is ∙ append_assoc front (ended (codes "@attributes")) texts
+    out_is ∙ ap (λ own. own ++ texts) opened_is
+    ∙ append_assoc front (ended (codes "@attributes")) texts

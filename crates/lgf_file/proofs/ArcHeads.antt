@@ -13,13 +13,15 @@ use Rattle.lgf_file.specs.declared.documents.Link.{Link}
 -- Before the head was read there are no arcs.
 pub no_arcs : (nodes : Cells) (head : Option Head) (arcs : List Link) (labels : Cells)
     → ArcsSound nodes head arcs labels → head ≡ None → arcs ≡ []
-no_arcs nodes head arcs labels sound none = (subst (λ own. ArcsSound nodes own arcs labels) none sound).1
+no_arcs nodes head arcs labels sound none =
+    (subst (λ own. ArcsSound nodes own arcs labels) none sound).1
 
 -- A sole token that is - among these.
 pub sole_dash : (cells : Cells) → length cells ≡ 1 → is_among dash cells ≡ true → dash ∷ [] ≡ cells
 sole_dash [] one among = absurd (omega arith)
 sole_dash (cell ∷ []) one among = ⊎_elim
-    (λ (same : bytes_eq dash cell ≡ true). ap (λ own. own ∷ []) ((bytes_eq-Decides dash cell).0 same))
+    (λ (same : bytes_eq dash cell ≡ true). ap (λ own. own ∷ [])
+    ((bytes_eq-Decides dash cell).0 same))
     (λ (other : false ≡ true). absurd (cc))
     (or_cases (bytes_eq dash cell) false among)
 sole_dash (cell ∷ other ∷ cells) one among = absurd (omega arith)

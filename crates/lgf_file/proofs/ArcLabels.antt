@@ -54,7 +54,8 @@ module _ (columns labels values : Cells) (name : List ℕ) (fresh : Bool)
   label_among fresh_is =
       let among = by_test fresh (is_among name labels) fresh_is in
       among ∙ ap (λ own. is_among own labels) is
-      ∙ sym (ap (λ test. test && is_among (label_in columns values) labels) (one_labelled columns some))
+      ∙ sym (ap (λ test. test && is_among (label_in columns values) labels)
+      (one_labelled columns some))
     where
       by_test : (fresh among : Bool) → fresh ≡ not among → not fresh ≡ among
       by_test fresh true is = ap not is
@@ -80,20 +81,23 @@ label_fault nodes columns arcs values =
   where
     by_test : (labelled : Bool) (name : List ℕ) (names : Cells)
         → (if labelled then twice_fault TwiceLabel name names else None)
-        ≡ (if labelled && is_among name (if labelled then names else []) then Some TwiceLabel else None)
+        ≡ (if labelled && is_among name (if labelled then names else []) then Some TwiceLabel else
+        None)
     by_test true name names = refl
     by_test false name names = refl
 
 -- The labels of arcs and of one more.
 arc_labels_push : (columns : Cells) (arcs : List Link) (arc : Link)
-    → arc_labels columns (arcs ++ arc ∷ []) ≡ arc_labels columns arcs ++ label_in columns arc.values ∷ []
+    → arc_labels columns (arcs ++ arc ∷ []) ≡ arc_labels columns arcs
+    ++ label_in columns arc.values ∷ []
 arc_labels_push columns arcs arc =
     ap (labels_of columns) (map_push (λ own. own.values) arcs arc)
     ∙ map_push (label_in columns) (map (λ own. own.values) arcs) arc.values
 
 -- The labels that were seen, and that of one more arc.
 pub seen_push : (columns : Cells) (arcs : List Link) (arc : Link)
-    → labels_seen columns (arcs ++ arc ∷ []) ≡ labels_with columns (labels_seen columns arcs) arc.values
+    → labels_seen columns (arcs ++ arc ∷ [])
+    ≡ labels_with columns (labels_seen columns arcs) arc.values
 seen_push columns arcs arc =
     ap (λ own. if is_among label columns then own else []) (arc_labels_push columns arcs arc)
     ∙ by_test (is_among label columns) (arc_labels columns arcs) (label_in columns arc.values)
@@ -105,7 +109,8 @@ seen_push columns arcs arc =
     by_test true names name = refl
     by_test false names name = refl
 
--- The labels of arcs differ, and that of one more arc from these if it isn't among those that were seen.
+-- The labels of arcs differ, and that of one more arc from these if it isn't among those that were
+-- seen.
 pub differ_push : (columns : Cells) (arcs : List Link) (arc : Link)
     → (is_among label columns ≡ true → has_twice (arc_labels columns arcs) ≡ false)
     → is_label_among columns (labels_seen columns arcs) arc.values ≡ false

@@ -8,21 +8,24 @@ use Rattle.lgf_file.specs.Rows.{Cells}
 use Rattle.lgf_file.specs.Documents.{label_at, link_cells, head_cells, arc_rows, attribute_cells, IsLink, AreArcs, ArcsSpell, AttributesSpell}
 use Rattle.lgf_file.specs.Faults.{columns_named}
 use Rattle.lgf_file.specs.declared.documents.Link.{Link}
-use Rattle.lgf_file.proofs.Alone.{rows_one}
+use Rattle.lgf_file.proofs.Readings.{rows_one}
 use Rattle.lgf_file.proofs.ArcsFine.{named_head}
 use Rattle.lgf_file.proofs.NameLists.{one_place}
 
 -- Arcs with equal ends and values are equal.
-link_same : (one other : Link) → one.from ≡ other.from → one.to ≡ other.to → one.values ≡ other.values
+link_same : (one other : Link) → one.from ≡ other.from → one.to ≡ other.to
+    → one.values ≡ other.values
     → one ≡ other
 link_same one other from to values = λ i. record { from = from i; to = to i; values = values i }
 
 -- Where the labels of nodes differ, arcs are determined by their tokens.
 pub links_one : (labels : Cells) → has_twice labels ≡ false → (columns other_columns : Cells)
-    (arcs others : List Link) → All (IsLink labels columns) arcs → All (IsLink labels other_columns) others
+    (arcs others : List Link) → All (IsLink labels columns) arcs
+    → All (IsLink labels other_columns) others
     → map (link_cells labels) arcs ≡ map (link_cells labels) others → arcs ≡ others
 links_one labels differ columns other_columns [] [] links other_links same = refl
-links_one labels differ columns other_columns [] (other ∷ others) links other_links same = absurd (cc)
+links_one labels differ columns other_columns [] (other ∷ others) links other_links same =
+    absurd (cc)
 links_one labels differ columns other_columns (arc ∷ arcs) [] links other_links same = absurd (cc)
 links_one labels differ columns other_columns (arc ∷ arcs) (other ∷ others) links other_links same =
     let link = All-head (IsLink labels columns) arc arcs links in
@@ -76,4 +79,5 @@ pub attributes_one : (lines : List Line) (attributes others : List (List ℕ × 
     → AttributesSpell lines attributes → AttributesSpell lines others → attributes ≡ others
 attributes_one lines attributes others spells other_spells =
     attributes_by_cells attributes others
-    (rows_one lines (map attribute_cells attributes) (map attribute_cells others) spells other_spells)
+    (rows_one lines (map attribute_cells attributes) (map attribute_cells others) spells
+    other_spells)

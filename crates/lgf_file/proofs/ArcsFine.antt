@@ -7,7 +7,8 @@ use Rattle.base_items.specs.declared.limits.TheConstants.{MAX_ARCS}
 use Rattle.token_text.specs.Names.{is_among, has_twice}
 use Rattle.lgf_file.specs.Rows.{Cells}
 use Rattle.lgf_file.specs.Documents.{label, dash, label_at, label_in, labels_of, link_cells, head_cells, arc_rows, IsLink, AreArcs}
-use Rattle.lgf_file.specs.Faults.{InOrder, columns_fault, columns_named, arc_row_fault, arc_label_fault, ends_fault, arc_fault, values_of, twice_fault}
+use Rattle.lgf_file.specs.Reading.{InOrder}
+use Rattle.lgf_file.specs.Faults.{columns_fault, columns_named, arc_row_fault, arc_label_fault, ends_fault, arc_fault, values_of, twice_fault}
 use Rattle.lgf_file.specs.declared.documents.Link.{Link}
 use Rattle.lgf_file.specs.declared.faults.LgfKind.TheVariants.{UnknownLabel, TwiceLabel}
 use Rattle.lgf_file.proofs.NameLists.{twice_front, among_at}
@@ -33,7 +34,8 @@ ends_fine : (labels columns : Cells) (arc : Link) → IsLink labels columns arc
     → ends_fault labels (link_cells labels arc) ≡ None
 ends_fine labels columns arc link =
     ap (λ test. if test then None else Some UnknownLabel)
-    (and_from (is_among (label_at labels arc.from) labels) (is_among (label_at labels arc.to) labels)
+    (and_from (is_among (label_at labels arc.from) labels)
+    (is_among (label_at labels arc.to) labels)
     (among_at labels arc.from link.0) (among_at labels arc.to link.1))
 
 module _ (labels columns : Cells) (arcs : List Link) (right : AreArcs labels columns arcs) where
@@ -49,7 +51,8 @@ module _ (labels columns : Cells) (arcs : List Link) (right : AreArcs labels col
           let values = made_midst (λ (own : Link). own.values) arcs front arc more split in
           let behind = map (λ (own : Link). own.values) front in
           let ahead = map (λ (own : Link). own.values) more in
-          let names = made_midst (label_in columns) (map (λ own. own.values) arcs) behind arc.values ahead
+          let names =
+          made_midst (label_in columns) (map (λ own. own.values) arcs) behind arc.values ahead
           values in
           let differ = subst (λ own. has_twice own ≡ false) names (right.labels_differ labelled) in
           not_twice TwiceLabel (label_in columns arc.values) (labels_of columns behind)
@@ -67,7 +70,8 @@ module _ (labels columns : Cells) (arcs : List Link) (right : AreArcs labels col
       (omega (arith, right.few, ap length split, fewer_front front arc more, long)) in
       let link = all_midst (IsLink labels columns) front arc more
       (subst (λ own. All (IsLink labels columns) own) split right.links) in
-      let width = width_right (2 + length columns) (link_cells labels arc) (omega (arith, link.2)) in
+      let width =
+      width_right (2 + length columns) (link_cells labels arc) (omega (arith, link.2)) in
       let ends = ends_fine labels columns arc link in
       let own_label = subst (λ values. arc_label_fault columns values arc.values ≡ None)
       (sym (values_behind labels front)) (arc_label_fine front arc more split) in

@@ -8,8 +8,8 @@ use Rattle.token_text.specs.Names.{is_among}
 use Rattle.lgf_file.specs.Sections.{Line}
 use Rattle.lgf_file.specs.Rows.{Cells, Words, Rows}
 use Rattle.lgf_file.specs.Documents.{AreArcs, ArcsSpell, dash, label_at, label_place, link_cells, head_cells}
-use Rattle.lgf_file.specs.Faults.{InOrder, arc_fault, arc_head_fault, arc_row_fault, columns_named, ends_fault, room_fault, width_fault, first_cell, second_cell, values_of}
-use Rattle.lgf_file.specs.Reading.{AllRead}
+use Rattle.lgf_file.specs.Faults.{arc_fault, arc_head_fault, arc_row_fault, columns_named, ends_fault, room_fault, width_fault, first_cell, second_cell, values_of}
+use Rattle.lgf_file.specs.Reading.{AllRead, InOrder}
 use Rattle.lgf_file.specs.Readers.{HoldsArcs, IsEnds, labels_seen, labels_with, is_label_among}
 use Rattle.lgf_file.specs.declared.documents.Link.{Link}
 use Rattle.lgf_file.specs.declared.heads.Head.{Head}

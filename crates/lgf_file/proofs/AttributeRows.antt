@@ -13,7 +13,8 @@ use Rattle.lgf_file.proofs.NoFaults.{passed, width_is}
 use Rattle.lgf_file.proofs.AttributesFine.{names_first}
 
 -- Attributes, and the two tokens of a row, of which the first is the name.
-module _ (attributes : List (List ℕ × List ℕ)) (names : Cells) (sound : AttributesSound attributes names)
+module _ (attributes : List (List ℕ
+    × List ℕ)) (names : Cells) (sound : AttributesSound attributes names)
     (cells : Cells) (wide : width_fault 2 cells ≡ None)
     (name other : List ℕ) (is : name ≡ slice_index_or cells 0 other) where
   first_is : name ≡ first_cell cells

@@ -6,8 +6,8 @@ use Rattle.token_text.specs.Names.{is_among}
 use Rattle.lgf_file.specs.Sections.{Line}
 use Rattle.lgf_file.specs.Rows.{Cells, Rows}
 use Rattle.lgf_file.specs.Documents.{AreAttributes, AttributesSpell, attribute_cells}
-use Rattle.lgf_file.specs.Faults.{InOrder, attribute_fault, width_fault, first_cell, second_cell}
-use Rattle.lgf_file.specs.Reading.{AllRead}
+use Rattle.lgf_file.specs.Faults.{attribute_fault, width_fault, first_cell, second_cell}
+use Rattle.lgf_file.specs.Reading.{AllRead, InOrder}
 use Rattle.lgf_file.specs.declared.faults.LgfKind.TheVariants.{TwiceAttribute}
 use Rattle.lgf_file.proofs.AttributeRows.{attribute_fault_is, attribute_behind}
 use Rattle.lgf_file.proofs.NoFaults.{width_is}

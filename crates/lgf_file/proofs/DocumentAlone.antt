@@ -10,10 +10,16 @@ use Rattle.lgf_file.proofs.ArcsAlone.{arcs_one, attributes_one}
 doc_same : (one other : Doc) → one.nodes ≡ other.nodes → one.arc_columns ≡ other.arc_columns
     → one.arcs ≡ other.arcs → one.attributes ≡ other.attributes → one ≡ other
 doc_same one other nodes columns arcs attributes =
-    λ i. record { nodes = nodes i; arc_columns = columns i; arcs = arcs i; attributes = attributes i }
+    λ i. record {
+      nodes = nodes i;
+      arc_columns = columns i;
+      arcs = arcs i;
+      attributes = attributes i;
+    }
 
 -- Bytes spell one document at most.
-pub one_document : (bytes : List ℕ) (one other : Doc) → Spells bytes one → Spells bytes other → one ≡ other
+pub one_document : (bytes : List ℕ) (one other : Doc) → Spells bytes one → Spells bytes other
+    → one ≡ other
 one_document bytes one other spells other_spells =
     let found : ◌≡◌ {A = Option Part} (Some spells.node_part) (Some other_spells.node_part) =
     sym spells.node_part_is ∙ other_spells.node_part_is in
@@ -22,10 +28,12 @@ one_document bytes one other spells other_spells =
     sym spells.arc_part_is ∙ other_spells.arc_part_is in
     let arc_parts : spells.arc_part ≡ other_spells.arc_part = cc in
     let nodes = nodes_one other_spells.node_part.rows one.nodes other.nodes
-    (subst (λ own. NodesSpell own.rows one.nodes) node_parts spells.nodes_are) other_spells.nodes_are in
+    (subst (λ own. NodesSpell own.rows one.nodes) node_parts spells.nodes_are)
+    other_spells.nodes_are in
     let labels = node_labels other.nodes in
     let columns = one.arc_columns in
-    let right = subst (λ own. AreArcs (node_labels own) columns one.arcs) nodes spells.valid.arcs_ok in
+    let right =
+    subst (λ own. AreArcs (node_labels own) columns one.arcs) nodes spells.valid.arcs_ok in
     let lines = subst (λ own. ArcsSpell own.rows (node_labels one.nodes) columns one.arcs) arc_parts
     spells.arcs_are in
     let rows = other_spells.arc_part.rows in
@@ -34,4 +42,5 @@ one_document bytes one other spells other_spells =
     other_spells.valid.nodes_ok.labels_differ right other_spells.valid.arcs_ok moved
     other_spells.arcs_are in
     doc_same one other nodes arcs.0 arcs.1
-    (attributes_one _ one.attributes other.attributes spells.attributes_are other_spells.attributes_are)
+    (attributes_one _ one.attributes other.attributes spells.attributes_are
+    other_spells.attributes_are)

@@ -1,26 +1,27 @@
 -- What the three sections of a file say is what the file says.
-use Rattle.std.proofs.Common.{◌≡◌, ℕ, ◌<◌, ◌≤◌, List, [], Some, None, Ok, Err, Option, Result, inl, inr, sym, ap, subst, arith}
+use Rattle.std.proofs.Common.{◌≡◌, ℕ, ◌<◌, ◌≤◌, List, [], Some, None, Ok, Err, Option, Result, sym, ap, subst, arith}
 use Rattle.std.specs.Prelude.{IfOk, IfErr, option_map}
 use Rattle.std.specs.Option.{option_map_or}
 use Rattle.token_text.specs.Lines.{lines_of}
 use Rattle.lgf_file.specs.Sections.{Line, Part, part, rows_in}
-use Rattle.lgf_file.specs.Documents.{IsDoc, Spells, NodesSpell, AttributesSpell, node_labels}
-use Rattle.lgf_file.specs.Faults.{node_fault, arc_fault, attribute_fault, FirstBad, BadRow, bad_node, bad_arc, bad_attribute, bad_row}
+use Rattle.lgf_file.specs.Documents.{IsDoc, Spells, AttributesSpell}
+use Rattle.lgf_file.specs.Faults.{RowsFault}
 use Rattle.lgf_file.specs.Found.{section_at}
 use Rattle.lgf_file.specs.Laws.{HasFault}
-use Rattle.lgf_file.specs.Reading.{node, arc, PartBad, PartsBlame, PartsSpell, rows_at}
+use Rattle.lgf_file.specs.Reading.{PartsBlame, PartsSpell, rows_at}
 use Rattle.lgf_file.specs.Results.{Answers, Names, Refuses}
 use Rattle.lgf_file.specs.declared.sections.Begun.{Begun}
 use Rattle.lgf_file.specs.declared.sections.Section.TheVariants.{Nodes, Arcs, Attributes}
 use Rattle.lgf_file.specs.declared.documents.Doc.{Doc}
-use Rattle.lgf_file.specs.declared.faults.LgfKind.{LgfKind}
 use Rattle.lgf_file.specs.declared.faults.LgfFault.{LgfFault}
 use Rattle.lgf_file.specs.declared.faults.DocFault.{DocFault}
 use Rattle.lgf_file.specs.declared.faults.DocFault.TheVariants.{Lgf, Memory}
 use Rattle.lgf_file.proofs.DocumentAlone.{one_document}
 use Rattle.lgf_file.proofs.FaultFree.{fault_spells_none}
-use Rattle.lgf_file.proofs.FaultAlone.{one_fault, nodes_no_arcs}
-use Rattle.lgf_file.proofs.PartsApart.{ats_differ}
+use Rattle.lgf_file.proofs.FaultAlone.{one_fault}
+use Rattle.lgf_file.proofs.FaultParts.{rows_first}
+use Rattle.lgf_file.proofs.SectionsDiffer.{ats_differ, nodes_no_arcs}
+use Rattle.std.proofs.lemmas.Bool.{le-ltb}
 
 -- The rows of a section that was found, or none.
 pub rows_found : (found : Option Begun) (own : Option Part)
@@ -34,17 +35,20 @@ pub refused : (bytes : List ℕ) (fault : LgfFault) → HasFault bytes fault →
 refused bytes fault has = (has, λ doc spells. fault_spells_none bytes fault doc has spells)
 
 module _ (bytes : List ℕ) (nodes arcs : Part) (attributes : List Line)
-    (nodes_is : part Nodes (lines_of bytes) ≡ Some nodes) (arcs_is : part Arcs (lines_of bytes) ≡ Some arcs)
+    (nodes_is : part Nodes (lines_of bytes) ≡ Some nodes)
+    (arcs_is : part Arcs (lines_of bytes) ≡ Some arcs)
     (attributes_is : rows_in (part Attributes (lines_of bytes)) ≡ attributes)
     (order : nodes.at ≤ arcs.at) where
   -- The nodes stand first.
   first : nodes.at < arcs.at
   first =
-      let differ = ats_differ 1 Nodes Arcs nodes_no_arcs (lines_of bytes) nodes arcs nodes_is arcs_is in
+      let differ =
+      ats_differ 1 Nodes Arcs nodes_no_arcs (lines_of bytes) nodes arcs nodes_is arcs_is in
       omega (arith, differ)
 
   -- The document of the three sections is that of the file.
-  pub spelled : (result : Result Doc DocFault) → IfOk result (PartsSpell nodes.rows arcs.rows attributes)
+  pub spelled : (result : Result Doc DocFault)
+      → IfOk result (PartsSpell nodes.rows arcs.rows attributes)
       → IfOk result IsDoc → IfOk result (Spells bytes)
   spelled (Ok doc) spells valid = record {
     valid = valid;
@@ -55,37 +59,20 @@ module _ (bytes : List ℕ) (nodes arcs : Part) (attributes : List Line)
     in_order = first;
     nodes_are = spells.nodes_are;
     arcs_are = spells.arcs_are;
-    attributes_are = subst (λ own. AttributesSpell own doc.attributes) (sym attributes_is) spells.attributes_are;
+    attributes_are =
+        subst (λ own. AttributesSpell own doc.attributes) (sym attributes_is) spells.attributes_are;
   }
   spelled (Err fault) spells valid = tt
 
-  -- A bad row of the file is one of the three sections.
-  bad_within : (number : ℕ) (kind : LgfKind) → BadRow (lines_of bytes) number kind
-      → PartBad nodes.rows arcs.rows attributes number kind
-  bad_within number kind (bad_node bad) = inl (node (subst (λ own. FirstBad node_fault (rows_in own) number kind) nodes_is bad))
-  bad_within number kind (bad_arc table right spells bad) =
-      inl (arc table right (subst (λ own. NodesSpell (rows_in own) table) nodes_is spells)
-      (subst (λ own. FirstBad (arc_fault (node_labels table)) (rows_in own) number kind) arcs_is bad))
-  bad_within number kind (bad_attribute bad) = inr (subst (λ own. FirstBad attribute_fault own number kind) attributes_is bad)
-
-  -- A bad row of one of the three sections is one of the file.
-  bad_without : (number : ℕ) (kind : LgfKind) → PartBad nodes.rows arcs.rows attributes number kind
-      → BadRow (lines_of bytes) number kind
-  bad_without number kind (inl (node bad)) =
-      bad_node (subst (λ own. FirstBad node_fault (rows_in own) number kind) (sym nodes_is) bad)
-  bad_without number kind (inl (arc table right spells bad)) =
-      bad_arc table right (subst (λ own. NodesSpell (rows_in own) table) (sym nodes_is) spells)
-      (subst (λ own. FirstBad (arc_fault (node_labels table)) (rows_in own) number kind) (sym arcs_is) bad)
-  bad_without number kind (inr bad) = bad_attribute (subst (λ own. FirstBad attribute_fault own number kind) (sym attributes_is) bad)
-
   -- The first fault of the three sections is that of the file.
-  pub blamed : (result : Result Doc DocFault) → IfErr result (PartsBlame nodes.rows arcs.rows attributes)
-      → IfErr result (Refuses bytes)
+  pub blamed : (result : Result Doc DocFault)
+      → IfErr result (PartsBlame nodes.rows arcs.rows attributes) → IfErr result (Refuses bytes)
   blamed (Ok doc) blames = tt
   blamed (Err Memory) blames = tt
   blamed (Err (Lgf fault)) blames =
-      refused bytes fault (bad_row nodes arcs nodes_is arcs_is first (bad_without fault.line fault.kind blames.0)
-      (λ other kind bad. blames.1 other kind (bad_within other kind bad)))
+      let behind = le-ltb arcs.at nodes.at order in
+      refused bytes fault (rows_first (lines_of bytes) nodes arcs nodes_is arcs_is fault behind
+      (subst (λ own. RowsFault nodes.rows arcs.rows own fault) (sym attributes_is) blames))
 
 module _ (bytes : List ℕ) (result : Result Doc DocFault) where
   -- The document that is spelled is what is answered.

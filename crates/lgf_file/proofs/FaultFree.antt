@@ -1,10 +1,12 @@
 -- Bytes that spell a document have no fault.
-use Rattle.std.proofs.Common.{◌≡◌, ℕ, List, [], ◌∷◌, Some, None, sym, ap, ◌∙◌, subst, arith, map}
+use Rattle.std.proofs.Common.{◌≡◌, ℕ, ◌+◌, Bool, true, false, List, [], ◌∷◌, length, Some, None, Option, refl, sym, ap, ◌∙◌, subst, arith, map}
+use Rattle.std.specs.Prelude.{MatchBool, nat_lt}
+use Rattle.std.proofs.lemmas.Bool.{ltb-true}
 use Rattle.token_text.specs.Lines.{lines_of}
-use Rattle.lgf_file.specs.Sections.{Line, part, rows_in}
+use Rattle.lgf_file.specs.Sections.{Line, Part, part, rows_in}
 use Rattle.lgf_file.specs.Rows.{Cells}
-use Rattle.lgf_file.specs.Documents.{node_labels, arc_rows, IsTable, AreArcs, AreAttributes, NodesSpell, ArcsSpell, AttributesSpell, attribute_cells, Spells}
-use Rattle.lgf_file.specs.Faults.{node_fault, arc_fault, attribute_fault, FirstBad, BadRow, bad_node, bad_arc, bad_attribute, FirstFault, no_nodes, no_arcs, arcs_first, bad_row}
+use Rattle.lgf_file.specs.Documents.{labels_of, node_labels, arc_rows, IsTable, AreArcs, AreAttributes, NodesSpell, ArcsSpell, AttributesSpell, attribute_cells, Spells}
+use Rattle.lgf_file.specs.Faults.{Reading, AreRead, rows_read, first_bad, labels_read, fault_or, earlier, graph_fault, rows_fault, RowsFault, FaultBy, node_fault, arc_fault, attribute_fault}
 use Rattle.lgf_file.specs.Laws.{HasFault}
 use Rattle.lgf_file.specs.declared.sections.Section.TheVariants.{Arcs, Attributes}
 use Rattle.lgf_file.specs.declared.documents.Doc.{Doc}
@@ -12,69 +14,127 @@ use Rattle.lgf_file.specs.declared.documents.Table.{Table}
 use Rattle.lgf_file.specs.declared.documents.Link.{Link}
 use Rattle.lgf_file.specs.declared.faults.LgfKind.{LgfKind}
 use Rattle.lgf_file.specs.declared.faults.LgfFault.{LgfFault}
-use Rattle.lgf_file.proofs.Alone.{no_bad_row, good_not_bad}
-use Rattle.lgf_file.proofs.NodesAlone.{nodes_one}
+use Rattle.lgf_file.proofs.Readings.{readings_one, read_as}
 use Rattle.lgf_file.proofs.NodesFine.{nodes_fine}
 use Rattle.lgf_file.proofs.ArcsFine.{arcs_fine}
 use Rattle.lgf_file.proofs.AttributesFine.{attributes_fine}
 
-module _ (number : ℕ) (kind : LgfKind) where
-  -- The lines of valid nodes have no bad row.
-  pub nodes_not_bad : (lines : List Line) (table : Table) → IsTable table → NodesSpell lines table
-      → FirstBad node_fault lines number kind → ⊥
-  nodes_not_bad [] table right spells bad = no_bad_row node_fault number kind bad
-  nodes_not_bad (line ∷ lines) table right spells bad =
-      good_not_bad node_fault (line ∷ lines) (table.columns ∷ table.rows) number kind spells
-      (nodes_fine table right) bad
+-- The lines are read without a fault.
+pub record Fine (fault : List Cells → Cells → Option LgfKind) (lines : List Line) : Type 0 where
+  pub readings : List Reading
+  pub are : AreRead lines readings
+  pub none : first_bad fault [] readings ≡ None
 
-  -- The lines of valid arcs have no bad row.
-  pub arcs_not_bad : (lines : List Line) (labels columns : Cells) (arcs : List Link)
-      → AreArcs labels columns arcs → ArcsSpell lines labels columns arcs
-      → FirstBad (arc_fault labels) lines number kind → ⊥
-  arcs_not_bad [] labels columns arcs right spells bad = no_bad_row (arc_fault labels) number kind bad
-  arcs_not_bad (line ∷ lines) labels columns arcs right spells bad =
-      good_not_bad (arc_fault labels) (line ∷ lines) (arc_rows labels columns arcs) number kind spells
-      (arcs_fine labels columns arcs right) bad
+-- The lines of nodes are read without a fault, and these are their labels.
+pub record FineNodes (lines : List Line) (labels : Cells) : Type 0 where
+  pub fine : Fine node_fault lines
+  pub labels_are : labels_read (rows_read fine.readings) ≡ labels
 
-  -- The lines of valid attributes have no bad row.
-  pub attributes_not_bad : (lines : List Line) (attributes : List (List ℕ × List ℕ)) → AreAttributes attributes
-      → AttributesSpell lines attributes → FirstBad attribute_fault lines number kind → ⊥
-  attributes_not_bad lines attributes right spells bad =
-      good_not_bad attribute_fault lines (map attribute_cells attributes) number kind spells
-      (attributes_fine attributes right) bad
+pub nodes_read : (lines : List Line) (table : Table) → IsTable table → NodesSpell lines table
+    → FineNodes lines (node_labels table)
+nodes_read [] table right spells = record {
+  fine = record { readings = []; are = tt; none = refl };
+  labels_are = sym (ap (labels_of table.columns) spells.1);
+}
+nodes_read (line ∷ lines) table right spells =
+    let read = read_as (line ∷ lines) (table.columns ∷ table.rows) spells in
+    record {
+      fine = record {
+        readings = read.readings;
+        are = read.are;
+        none = read.fine node_fault [] (nodes_fine table right);
+      };
+      labels_are = ap labels_read read.rows_are;
+    }
 
-  -- A file that spells a document has no bad row.
-  no_row_bad : (bytes : List ℕ) (doc : Doc) → Spells bytes doc → BadRow (lines_of bytes) number kind → ⊥
-  no_row_bad bytes doc spells (bad_node bad) =
-      nodes_not_bad spells.node_part.rows doc.nodes spells.valid.nodes_ok spells.nodes_are
-      (subst (λ found. FirstBad node_fault (rows_in found) number kind) spells.node_part_is bad)
-  no_row_bad bytes doc spells (bad_arc table right table_spells bad) =
-      let nodes = subst (λ found. NodesSpell (rows_in found) table) spells.node_part_is table_spells in
-      let same = nodes_one spells.node_part.rows table doc.nodes nodes spells.nodes_are in
-      let moved = subst (λ own. FirstBad (arc_fault (node_labels own))
-      (rows_in (part Arcs (lines_of bytes))) number kind) same bad in
-      arcs_not_bad spells.arc_part.rows (node_labels doc.nodes) doc.arc_columns doc.arcs
-      spells.valid.arcs_ok spells.arcs_are
-      (subst (λ found. FirstBad (arc_fault (node_labels doc.nodes)) (rows_in found) number kind)
-      spells.arc_part_is moved)
-  no_row_bad bytes doc spells (bad_attribute bad) =
-      attributes_not_bad (rows_in (part Attributes (lines_of bytes))) doc.attributes
-      spells.valid.attributes_ok spells.attributes_are bad
+pub arcs_read : (lines : List Line) (labels columns : Cells) (arcs : List Link)
+    → AreArcs labels columns arcs
+    → ArcsSpell lines labels columns arcs → Fine (arc_fault labels) lines
+arcs_read [] labels columns arcs right spells = record { readings = []; are = tt; none = refl }
+arcs_read (line ∷ lines) labels columns arcs right spells =
+    let read = read_as (line ∷ lines) (arc_rows labels columns arcs) spells in
+    record {
+      readings = read.readings;
+      are = read.are;
+      none = read.fine (arc_fault labels) [] (arcs_fine labels columns arcs right);
+    }
 
-  -- A file that spells a document has no first fault.
-  no_fault : (bytes : List ℕ) (doc : Doc) → Spells bytes doc → FirstFault (lines_of bytes) number kind → ⊥
-  no_fault bytes doc spells (no_nodes none number_is kind_is) =
-      absurd (let both : Some spells.node_part ≡ None = sym spells.node_part_is ∙ none in cc)
-  no_fault bytes doc spells (no_arcs nodes nodes_is none number_is kind_is) =
-      absurd (let both : Some spells.arc_part ≡ None = sym spells.arc_part_is ∙ none in cc)
-  no_fault bytes doc spells (arcs_first nodes arcs nodes_is arcs_is before number_is kind_is) =
-      let node_same : nodes ≡ spells.node_part = cc in
-      let arc_same : arcs ≡ spells.arc_part = cc in
-      absurd (omega (arith, spells.in_order, ap (λ own. own.at) node_same, ap (λ own. own.at) arc_same))
-  no_fault bytes doc spells (bad_row nodes arcs nodes_is arcs_is before row first) =
-      no_row_bad bytes doc spells row
+pub attributes_read : (lines : List Line) (attributes : List (List ℕ × List ℕ))
+    → AreAttributes attributes
+    → AttributesSpell lines attributes → Fine attribute_fault lines
+attributes_read lines attributes right spells =
+    let read = read_as lines (map attribute_cells attributes) spells in
+    record {
+      readings = read.readings;
+      are = read.are;
+      none = read.fine attribute_fault [] (attributes_fine attributes right);
+    }
+
+-- The first fault is that of the arcs, where the nodes have none.
+pub arcs_fault : (nodes : List Line) (labels : Cells) (arcs : List Reading)
+    (own : FineNodes nodes labels)
+    → graph_fault own.fine.readings arcs ≡ first_bad (arc_fault labels) [] arcs
+arcs_fault nodes labels arcs own =
+    let found = labels_read (rows_read own.fine.readings) in
+    ap (λ first. fault_or first (first_bad (arc_fault found) [] arcs)) own.fine.none
+    ∙ ap (λ names. first_bad (arc_fault names) [] arcs) own.labels_are
+
+-- It is that of the attributes, where the nodes and the arcs have none.
+pub attributes_fault : (nodes arcs : List Line) (labels : Cells) (attributes : List Reading)
+    (own : FineNodes nodes labels) (links : Fine (arc_fault labels) arcs)
+    → rows_fault own.fine.readings links.readings attributes
+    ≡ first_bad attribute_fault [] attributes
+attributes_fault nodes arcs labels attributes own links =
+    ap (λ graph. earlier graph (first_bad attribute_fault [] attributes))
+    (arcs_fault nodes labels links.readings own ∙ links.none)
+
+-- Sections that spell a document have no fault.
+rows_fine : (nodes arcs attributes : List Line) (doc : Doc) (fault : LgfFault) → IsTable doc.nodes
+    → AreArcs (node_labels doc.nodes) doc.arc_columns doc.arcs → AreAttributes doc.attributes
+    → NodesSpell nodes doc.nodes → ArcsSpell arcs (node_labels doc.nodes) doc.arc_columns doc.arcs
+    → AttributesSpell attributes doc.attributes → RowsFault nodes arcs attributes fault → ⊥
+rows_fine nodes arcs attributes doc fault right links_right pairs_right spells links_spell
+    pairs_spell bad =
+    let labels = node_labels doc.nodes in
+    let own = nodes_read nodes doc.nodes right spells in
+    let links = arcs_read arcs labels doc.arc_columns doc.arcs links_right links_spell in
+    let pairs = attributes_read attributes doc.attributes pairs_right pairs_spell in
+    let first = readings_one nodes _ _ bad.nodes_are own.fine.are in
+    let second = readings_one arcs _ _ bad.arcs_are links.are in
+    let third = readings_one attributes _ _ bad.attributes_are pairs.are in
+    let same : rows_fault bad.node_readings bad.arc_readings bad.attribute_readings
+    ≡ rows_fault own.fine.readings links.readings pairs.readings =
+    λ i. rows_fault (first i) (second i) (third i) in
+    let none = attributes_fault nodes arcs labels pairs.readings own links ∙ pairs.none in
+    let both : ◌≡◌ {A = Option LgfFault} (Some fault) None = sym bad.fault_is ∙ same ∙ none in
+    absurd (cc)
 
 -- Bytes that have a fault spell no document.
 pub fault_spells_none : (bytes : List ℕ) (fault : LgfFault) (doc : Doc) → HasFault bytes fault
     → Spells bytes doc → ⊥
-fault_spells_none bytes fault doc faulted spells = no_fault fault.line fault.kind bytes doc spells faulted
+fault_spells_none bytes fault doc faulted spells =
+    by_test _ (nat_lt arcs.at nodes.at) refl
+    (subst (λ own. FaultBy end (Some nodes) own attributes fault) spells.arc_part_is
+    (subst (λ own. FaultBy end own (part Arcs (lines_of bytes)) attributes fault)
+    spells.node_part_is faulted))
+  where
+    end : ℕ
+    end = length (lines_of bytes) + 1
+
+    nodes : Part
+    nodes = spells.node_part
+
+    arcs : Part
+    arcs = spells.arc_part
+
+    attributes : List Line
+    attributes = rows_in (part Attributes (lines_of bytes))
+
+    by_test : (P : Type 0) (test : Bool) → nat_lt arcs.at nodes.at ≡ test
+        → MatchBool test P (RowsFault nodes.rows arcs.rows attributes fault) → ⊥
+    by_test P true tested said =
+        absurd (omega (arith, ltb-true arcs.at nodes.at tested, spells.in_order))
+    by_test P false tested bad =
+        rows_fine nodes.rows arcs.rows attributes doc fault spells.valid.nodes_ok
+        spells.valid.arcs_ok
+        spells.valid.attributes_ok spells.nodes_are spells.arcs_are spells.attributes_are bad

@@ -10,7 +10,8 @@ use Rattle.lgf_file.specs.Found.{section_at, found_or}
 use Rattle.lgf_file.specs.declared.sections.Section.{Section}
 
 -- The visible bytes up to a blank or the end are the name.
-pub name_is : (word rest : List ℕ) → is_word_bytes word ≡ true → IsStop rest → name_of (word ++ rest) ≡ word
+pub name_is : (word rest : List ℕ) → is_word_bytes word ≡ true → IsStop rest
+    → name_of (word ++ rest) ≡ word
 name_is [] [] visible stop = refl
 name_is [] (byte ∷ rest) visible stop = ap (λ blank. cond blank [] (byte ∷ name_of rest)) stop
 name_is (byte ∷ word) rest visible stop =
@@ -34,8 +35,10 @@ one_on section number None line rest after same =
     ap (part_from number section) same ∙ by_test (is_opened_by section (kind_of line))
   where
     by_test : (opens : Bool)
-        → cond opens (Some (section_at number after)) (part_from (number + 1) section (lines_of after))
-        ≡ or_later (cond opens (Some (section_at number after)) None) (part_from (number + 1) section (lines_of after))
+        → cond opens (Some (section_at number after))
+        (part_from (number + 1) section (lines_of after))
+        ≡ or_later (cond opens (Some (section_at number after)) None)
+        (part_from (number + 1) section (lines_of after))
     by_test true = refl
     by_test false = refl
 

@@ -1,11 +1,12 @@
 -- Rows of which none is at fault behind those before it.
 use Rattle.std.proofs.Common.{◌≡◌, List, [], ◌∷◌, ◌++◌, None, Option, refl, sym, ap, subst, append_assoc, append-nil, map}
 use Rattle.lgf_file.specs.Rows.{Cells}
-use Rattle.lgf_file.specs.Faults.{InOrder}
+use Rattle.lgf_file.specs.Reading.{InOrder}
 use Rattle.lgf_file.specs.declared.faults.LgfKind.{LgfKind}
 
 module _ (fault : List Cells → Cells → Option LgfKind) where
-  -- Rows that are made of items are in order, if none is at fault behind those of the items before it.
+  -- Rows that are made of items are in order, if none is at fault behind those of the items before
+  -- it.
   pub made_in_order : {A : Type 0} (cells_of : A → Cells) (before : List Cells) (items : List A)
       → ((front : List A) (item : A) (more : List A) → items ≡ front ++ item ∷ more
       → fault (before ++ map cells_of front) (cells_of item) ≡ None)
@@ -28,7 +29,8 @@ module _ (fault : List Cells → Cells → Option LgfKind) where
       → InOrder fault before rows
   rows_in_order before [] fine = tt
   rows_in_order before (cells ∷ rows) fine =
-      let alone = subst (λ own. fault own cells ≡ None) (append-nil before) (fine [] cells rows refl) in (
+      let alone =
+      subst (λ own. fault own cells ≡ None) (append-nil before) (fine [] cells rows refl) in (
         alone,
         rows_in_order (before ++ cells ∷ []) rows (λ front next more split.
             subst (λ own. fault own next ≡ None)

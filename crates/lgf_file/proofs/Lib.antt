@@ -16,10 +16,11 @@ pub mod InOrderRows
 pub mod NodesFine
 pub mod ArcsFine
 pub mod AttributesFine
-pub mod Alone
+pub mod Readings
 pub mod NodesAlone
 pub mod ArcsAlone
-pub mod PartsApart
+pub mod SectionsDiffer
+pub mod FaultParts
 pub mod DocumentAlone
 pub mod FaultFree
 pub mod FaultAlone
@@ -29,7 +30,6 @@ pub mod WrittenRows
 pub mod WrittenSections
 pub mod RoundTrip
 pub mod Appended
-pub mod SomeRows
 pub mod WithoutFault
 pub mod NodesSaid
 pub mod ArcsSaid

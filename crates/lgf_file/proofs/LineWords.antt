@@ -14,7 +14,8 @@ cells_of tokens = map (λ (token : Token). token.bytes) tokens
 
 -- A line whose tokens can all be read has these and no other.
 pub has_words : (line : List ℕ) (at : ℕ) (tokens : List Token) (fault : Option ℕ)
-    → HasTokens line at tokens fault → is_some fault ≡ false → Words (drop at line) (cells_of tokens)
+    → HasTokens line at tokens fault → is_some fault ≡ false
+    → Words (drop at line) (cells_of tokens)
 has_words line at tokens (Some place) has ends = absurd (cc)
 has_words line at [] None none ends = none
 has_words line at (token ∷ tokens) None has ends =
@@ -22,7 +23,8 @@ has_words line at (token ∷ tokens) None has ends =
 
 -- A line with a token that can't be read has no list of tokens.
 pub no_words : (line : List ℕ) (at : ℕ) (tokens : List Token) (fault : Option ℕ)
-    → HasTokens line at tokens fault → is_some fault ≡ true → (cells : Cells) → Words (drop at line) cells → ⊥
+    → HasTokens line at tokens fault → is_some fault ≡ true → (cells : Cells)
+    → Words (drop at line) cells → ⊥
 no_words line at tokens None has faulty cells words = absurd (cc)
 no_words line at [] (Some place) stops faulty [] words =
     let same : Some place ≡ None = stop_alone line at (Some place) None stops words in absurd (cc)

@@ -17,6 +17,8 @@ pub fewer_front : {A : Type 0} (front : List A) (item : A) (more : List A)
 fewer_front front item more = omega (arith, length-append front (item ∷ more))
 
 -- What is made of an item stands in the midst of what is made of all.
-pub made_midst : {A : Type 0} {B : Type 0} (made : A → B) (items front : List A) (item : A) (more : List A)
+pub made_midst : {A : Type 0} {B : Type 0} (made : A → B) (items front : List A) (item : A)
+    (more : List A)
     → items ≡ front ++ item ∷ more → map made items ≡ map made front ++ made item ∷ map made more
-made_midst made items front item more split = ap (map made) split ∙ map-append made front (item ∷ more)
+made_midst made items front item more split =
+    ap (map made) split ∙ map-append made front (item ∷ more)

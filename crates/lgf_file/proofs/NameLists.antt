@@ -49,7 +49,8 @@ twice_front (first ∷ front) name more differ =
     (twice_front front name more parts.1)
 
 -- Names that differ, and one more that is none of them, differ.
-pub twice_push : (names : Names) (name : List ℕ) → has_twice names ≡ false → is_among name names ≡ false
+pub twice_push : (names : Names) (name : List ℕ) → has_twice names ≡ false
+    → is_among name names ≡ false
     → has_twice (names ++ name ∷ []) ≡ false
 twice_push [] name differ none = refl
 twice_push (first ∷ names) name differ none =

@@ -17,7 +17,8 @@ pub room_left : (most : ℕ) (rows : List Cells) → length rows < most → room
 room_left most rows few = grind arith
 
 -- The row has as many tokens as are wanted.
-pub width_right : (wanted : ℕ) (cells : Cells) → length cells ≡ wanted → width_fault wanted cells ≡ None
+pub width_right : (wanted : ℕ) (cells : Cells) → length cells ≡ wanted
+    → width_fault wanted cells ≡ None
 width_right wanted cells wide = grind arith
 
 -- The name didn't stand before.
@@ -28,16 +29,19 @@ not_twice kind name names none = ap (λ test. if test then Some kind else None) 
 -- Names of columns are without a fault.
 pub columns_right : (columns : Cells) → AreColumns columns → columns_fault columns ≡ None
 columns_right columns right =
-    ap (λ test. if test then Some DashColumn else (if has_twice columns then Some TwiceColumn else None))
+    ap (λ test. if test then Some DashColumn else
+    (if has_twice columns then Some TwiceColumn else None))
     right.no_dash
     ∙ ap (λ test. if test then Some TwiceColumn else None) right.differ
 
 -- There are other than as many rows as there may be.
-pub room_open : (most : ℕ) (rows : List Cells) → (length rows ≡ most → ⊥) → room_fault most rows ≡ None
+pub room_open : (most : ℕ) (rows : List Cells) → (length rows ≡ most → ⊥)
+    → room_fault most rows ≡ None
 room_open most rows other = grind arith
 
 -- A row without a fault of its width has as many tokens as are wanted.
-pub width_is : (wanted : ℕ) (cells : Cells) → width_fault wanted cells ≡ None → length cells ≡ wanted
+pub width_is : (wanted : ℕ) (cells : Cells) → width_fault wanted cells ≡ None
+    → length cells ≡ wanted
 width_is wanted cells none = grind arith
 
 -- There isn't the first of two faults.

@@ -5,9 +5,9 @@ use Rattle.base_items.specs.declared.limits.TheConstants.{MAX_NODES}
 use Rattle.token_text.specs.Names.{is_among}
 use Rattle.lgf_file.specs.Sections.{Line}
 use Rattle.lgf_file.specs.Rows.{Cells}
-use Rattle.lgf_file.specs.Documents.{IsTable, NodesSpell, label, label_in, label_place, labels_of}
-use Rattle.lgf_file.specs.Faults.{InOrder, node_fault, node_head_fault, node_row_fault, columns_fault, room_fault, width_fault, twice_fault}
-use Rattle.lgf_file.specs.Reading.{AllRead}
+use Rattle.lgf_file.specs.Documents.{IsTable, NodesSpell, label, label_in, label_place, labels_of, node_labels}
+use Rattle.lgf_file.specs.Faults.{node_fault, node_head_fault, node_row_fault, columns_fault, room_fault, width_fault, twice_fault, labels_read}
+use Rattle.lgf_file.specs.Reading.{AllRead, InOrder}
 use Rattle.lgf_file.specs.Readers.{AreNodes}
 use Rattle.lgf_file.specs.declared.documents.Table.{Table}
 use Rattle.lgf_file.specs.declared.heads.Head.{Head}
@@ -65,17 +65,19 @@ rows_said columns before (cells ∷ more) right order =
     order.1)
 
 -- The nodes that the lines say.
-pub record NodesSaid (lines : List Line) : Type 0 where
+pub record NodesSaid (lines : List Line) (read : List Cells) : Type 0 where
   pub table : Table
   pub right : IsTable table
   pub spells : NodesSpell lines table
+  pub labels_are : labels_read read ≡ node_labels table
 
 pub nodes_said : (lines : List Line) (read : List Cells) → AllRead node_fault lines read
-    → NodesSaid lines
+    → NodesSaid lines read
 nodes_said [] [] all = record {
   table = table_with (label ∷ []) [];
   right = head_said (label ∷ []) refl;
   spells = (refl, refl);
+  labels_are = refl;
 }
 nodes_said [] (cells ∷ read) all = absurd all.read_is
 nodes_said (line ∷ lines) [] all = absurd all.read_is
@@ -83,4 +85,5 @@ nodes_said (line ∷ lines) (columns ∷ rows) all = record {
   table = table_with columns rows;
   right = rows_said columns [] rows (head_said columns all.fine.0) all.fine.1;
   spells = all.read_is;
+  labels_are = refl;
 }

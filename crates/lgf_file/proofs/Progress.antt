@@ -1,13 +1,15 @@
 -- Rows of a section, taken in one after the other.
-use Rattle.std.proofs.Common.{◌≡◌, List, [], ◌∷◌, ◌++◌, None, Option, refl, sym, ap, ◌∙◌, subst, append_assoc, append-nil}
+use Rattle.std.proofs.Common.{◌≡◌, List, [], ◌∷◌, ◌++◌, None, Some, Option, refl, sym, ap, ◌∙◌, subst, append_assoc, append-nil}
 use Rattle.lgf_file.specs.Sections.{Line}
 use Rattle.lgf_file.specs.Rows.{Cells, Words, Rows}
-use Rattle.lgf_file.specs.Faults.{InOrder, RowFault, FirstBad}
-use Rattle.lgf_file.specs.Reading.{AllRead}
+use Rattle.lgf_file.specs.Faults.{IsRead, AreRead, row_of, row_fault, told_or, first_bad}
+use Rattle.lgf_file.specs.Reading.{AllRead, HasBad, InOrder}
 use Rattle.lgf_file.specs.declared.faults.LgfKind.{LgfKind}
+use Rattle.lgf_file.proofs.Readings.{some_readings, bad_behind}
 
 -- Of the lines some were read as these rows, which are in order, and the others are left.
-pub record Progress (fault : List Cells → Cells → Option LgfKind) (lines : List Line) (read : List Cells) (left : List Line) : Type 0 where
+pub record Progress (fault : List Cells → Cells
+    → Option LgfKind) (lines : List Line) (read : List Cells) (left : List Line) : Type 0 where
   pub before : List Line
   pub split : lines ≡ before ++ left
   pub read_is : Rows before read
@@ -24,8 +26,10 @@ rows_push (before ∷ lines) (first ∷ rows) line cells rows_are words =
 
 -- One row more that isn't at fault behind the others.
 order_push : (fault : List Cells → Cells → Option LgfKind) (start read : List Cells) (cells : Cells)
-    → InOrder fault start read → fault (start ++ read) cells ≡ None → InOrder fault start (read ++ cells ∷ [])
-order_push fault start [] cells fine none = (ap (λ before. fault before cells) (sym (append-nil start)) ∙ none, tt)
+    → InOrder fault start read → fault (start ++ read) cells ≡ None
+    → InOrder fault start (read ++ cells ∷ [])
+order_push fault start [] cells fine none =
+    (ap (λ before. fault before cells) (sym (append-nil start)) ∙ none, tt)
 order_push fault start (first ∷ read) cells fine none =
     let moved = ap (λ before. fault before cells) (append_assoc start (first ∷ []) read) in
     (fine.0, order_push fault (start ++ first ∷ []) read cells fine.1 (moved ∙ none))
@@ -38,12 +42,14 @@ module _ (fault : List Cells → Cells → Option LgfKind) (lines : List Line) w
 
   -- A row was read that isn't at fault.
   pub push : (read after : List Cells) (left more : List Line) (line : Line) (cells : Cells)
-      → Progress fault lines read left → left ≡ line ∷ more → Words line.1 cells → fault read cells ≡ None
+      → Progress fault lines read left → left ≡ line ∷ more → Words line.1 cells
+      → fault read cells ≡ None
       → after ≡ read ++ cells ∷ [] → Progress fault lines after more
   push read after left more line cells was left_is words none after_is =
       subst (λ own. Progress fault lines own more) (sym after_is) (record {
         before = was.before ++ line ∷ [];
-        split = was.split ∙ ap (λ own. was.before ++ own) left_is ∙ sym (append_assoc was.before (line ∷ []) more);
+        split = was.split ∙ ap (λ own. was.before ++ own) left_is
+            ∙ sym (append_assoc was.before (line ∷ []) more);
         read_is = rows_push was.before read line cells was.read_is words;
         fine = order_push fault [] read cells was.fine none;
       })
@@ -58,17 +64,21 @@ module _ (fault : List Cells → Cells → Option LgfKind) (lines : List Line) w
     fine = was.fine;
   }
 
-  -- The next row is bad.
-  pub fail : (read : List Cells) (left more : List Line) (line : Line) (kind : LgfKind)
-      → Progress fault lines read left → left ≡ line ∷ more → RowFault fault read line.1 kind
-      → FirstBad fault lines line.0 kind
-  fail read left more line kind was left_is bad = record {
-    before = was.before;
-    text = line.1;
-    after = more;
-    split = was.split ∙ ap (λ own. was.before ++ own) left_is;
-    read = read;
-    read_is = was.read_is;
-    fine = was.fine;
-    bad = bad;
-  }
+  -- The next row is at fault.
+  pub fail : (read : List Cells) (left more : List Line) (line : Line) (row : Option Cells)
+      (kind : LgfKind)
+      → Progress fault lines read left → left ≡ line ∷ more → IsRead line.1 row
+      → row_fault fault read row ≡ Some kind
+      → HasBad fault lines (record { line = line.0; kind = kind })
+  fail read left more line row kind was left_is row_is bad =
+      let rest = some_readings more in
+      let behind =
+      bad_behind fault [] was.before read (line ∷ more) ((line.0, row) ∷ rest.0) was.read_is
+      was.fine (refl, row_is, rest.1) in
+      let split = was.split ∙ ap (λ own. was.before ++ own) left_is in
+      record {
+        readings = behind.readings;
+        are = subst (λ own. AreRead own behind.readings) (sym split) behind.are;
+        is = behind.is ∙ ap (λ own. told_or line.0 own
+            (first_bad fault (read ++ row_of row) rest.0)) bad;
+      }

@@ -139,7 +139,8 @@ module _ (doc : Doc) (valid : IsDoc doc) where
   lines_are = lines_joined (plain_lines doc) lines_inside
 
   -- The first section of nodes begins at the first line, with the lines of the nodes as its rows.
-  node_part_is : part Nodes (plain_lines doc) ≡ Some (record { at = 1; rows = numbered 2 node_texts })
+  node_part_is : part Nodes (plain_lines doc)
+      ≡ Some (record { at = 1; rows = numbered 2 node_texts })
   node_part_is =
       ap (λ (rows : List Line). Some (record { at = 1; rows = rows }))
       (rows_numbered 2 node_texts arcs_on node_texts_rows (λ number. refl))
@@ -150,7 +151,8 @@ module _ (doc : Doc) (valid : IsDoc doc) where
   arc_part_is =
       part_behind Arcs 2 node_texts arcs_on node_texts_rows
       ∙ ap (λ (rows : List Line). Some (record { at = arcs_at; rows = rows }))
-      (rows_numbered (arcs_at + 1) arc_texts last_lines arc_texts_rows (attributes_end doc.attributes))
+      (rows_numbered (arcs_at + 1) arc_texts last_lines arc_texts_rows
+      (attributes_end doc.attributes))
 
   -- The first section of attributes is the first among the lines behind the arcs.
   attribute_part_is : part Attributes (plain_lines doc)

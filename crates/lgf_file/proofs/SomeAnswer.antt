@@ -1,30 +1,29 @@
 -- A file spells a document or has a first fault.
-use Rattle.std.proofs.Common.{◌≡◌, ℕ, ◌+◌, ◌≤◌, ◌<◌, Bool, true, false, cond, List, [], ◌∷◌, length, Some, None, Option, Ok, Err, ◌⊎◌, inl, inr, refl, sym, ap, ◌∙◌, arith}
+use Rattle.std.proofs.Common.{◌≡◌, ℕ, ◌+◌, ◌≤◌, ◌<◌, Bool, true, false, cond, List, [], ◌∷◌, length, Some, None, Option, Ok, ◌⊎◌, inl, inr, refl, subst, sym, ap, ◌∙◌, arith}
 use Rattle.std.specs.Prelude.{nat_lt}
-use Rattle.std.proofs.lemmas.Bool.{ltb-true, ltb-false}
+use Rattle.std.proofs.lemmas.Bool.{ltb-false, le-ltb}
 use Rattle.std.proofs.lemmas.List.{length-map}
 use Rattle.base_items.specs.declared.limits.TheConstants.{MAX_NODES}
 use Rattle.token_text.specs.Lines.{lines_of}
 use Rattle.lgf_file.specs.Sections.{Line, Part, part, part_from, rows_of, rows_in, is_opened_by, kind_of}
 use Rattle.lgf_file.specs.Rows.{Cells, Words}
 use Rattle.lgf_file.specs.Documents.{Spells, IsDoc, IsTable, label_in, node_labels}
-use Rattle.lgf_file.specs.Faults.{node_fault, arc_fault, attribute_fault, no_nodes, no_arcs, arcs_first}
+use Rattle.lgf_file.specs.Faults.{Reading, AreRead, rows_read, first_bad, labels_read, fault_or, earlier, graph_fault, rows_fault, node_fault, arc_fault, attribute_fault}
 use Rattle.lgf_file.specs.Laws.{HasFault}
-use Rattle.lgf_file.specs.Reading.{GraphBad, node, arc, PartsSpell, PartsBlame}
+use Rattle.lgf_file.specs.Reading.{AllRead, PartsSpell}
 use Rattle.lgf_file.specs.declared.sections.Section.{Section}
 use Rattle.lgf_file.specs.declared.sections.Section.TheVariants.{Nodes, Arcs, Attributes}
 use Rattle.lgf_file.specs.declared.documents.Doc.{Doc}
 use Rattle.lgf_file.specs.declared.documents.Table.{Table}
 use Rattle.lgf_file.specs.declared.faults.LgfFault.{LgfFault}
-use Rattle.lgf_file.specs.declared.faults.LgfKind.TheVariants.{NoNodes, NoArcs, ArcsFirst}
-use Rattle.lgf_file.specs.declared.faults.DocFault.TheVariants.{Lgf}
+use Rattle.lgf_file.specs.declared.faults.LgfKind.{LgfKind}
 use Rattle.lgf_file.proofs.RowWords.{first_has_token}
-use Rattle.lgf_file.proofs.SomeRows.{SomeRows, some_rows}
-use Rattle.lgf_file.proofs.NodesSaid.{NodesSaid, nodes_said}
-use Rattle.lgf_file.proofs.ArcsSaid.{ArcsSaid, arcs_said}
-use Rattle.lgf_file.proofs.AttributesSaid.{AttributesSaid, attributes_said}
-use Rattle.lgf_file.proofs.PartsRead.{graph_blamed, attribute_blamed, both_blamed}
-use Rattle.lgf_file.proofs.DocumentRead.{spelled, blamed}
+use Rattle.lgf_file.proofs.Readings.{some_readings, none_bad}
+use Rattle.lgf_file.proofs.FaultParts.{no_nodes, no_arcs, arcs_first, rows_first}
+use Rattle.lgf_file.proofs.NodesSaid.{nodes_said}
+use Rattle.lgf_file.proofs.ArcsSaid.{arcs_said}
+use Rattle.lgf_file.proofs.AttributesSaid.{attributes_said}
+use Rattle.lgf_file.proofs.DocumentRead.{spelled}
 
 -- The bytes spell a document, or have a first fault.
 abbrev pub SomeAnswer : List ℕ → Type 0
@@ -63,129 +62,120 @@ has_token section lines found is line more cells split words =
     let own = rows_of_part 1 section lines found is in
     first_has_token own.number own.lines line more cells (sym own.are ∙ split) words
 
--- ---- the nodes and the arcs
+-- ---- two faults
 
--- Both are in order.
-record GraphSaid (nodes arcs : List Line) : Type 0 where
-  nodes_said : NodesSaid nodes
-  arcs_said : ArcsSaid arcs (node_labels nodes_said.table)
+neither_or : (one other : Option LgfFault) → fault_or one other ≡ None
+    → (one ≡ None) × (other ≡ None)
+neither_or None other none = (refl, none)
+neither_or (Some fault) other none = absurd (cc)
 
--- Both are in order, or there is a first bad row.
-abbrev SomeGraph : List Line → List Line → Type 0
-SomeGraph nodes arcs =
-    GraphSaid nodes arcs ⊎ ((told : LgfFault) × GraphBad nodes arcs told.line told.kind)
+neither_earlier : (one other : Option LgfFault) → earlier one other ≡ None
+    → (one ≡ None) × (other ≡ None)
+neither_earlier None other none = (refl, none)
+neither_earlier (Some one) None none = absurd (cc)
+neither_earlier (Some one) (Some other) none = absurd (cc)
+
+-- ---- the file
 
 few_labels : (table : Table) → IsTable table → length (node_labels table) ≤ MAX_NODES
 few_labels table right = omega (arith, right.few, length-map table.rows (label_in table.columns))
 
-some_graph : (nodes arcs : List Line)
-    → ((line : Line) (more : List Line) (cells : Cells) → arcs ≡ line ∷ more → Words line.1 cells
-    → 0 < length cells)
-    → SomeGraph nodes arcs
-some_graph nodes arcs some = by_nodes (some_rows node_fault nodes)
-  where
-    by_arcs : (said : NodesSaid nodes) → SomeRows (arc_fault (node_labels said.table)) arcs
-        → SomeGraph nodes arcs
-    by_arcs said (inl rows) = inl (record {
-      nodes_said = said;
-      arcs_said =
-          arcs_said (node_labels said.table) (few_labels said.table said.right) arcs rows.0 some
-          rows.1;
-    })
-    by_arcs said (inr bad) = inr (bad.0, arc said.table said.right said.spells bad.1)
+-- The rows are in order.
+all_in_order : (fault : List Cells → Cells → Option LgfKind) (lines : List Line)
+    (readings : List Reading)
+    → AreRead lines readings → first_bad fault [] readings ≡ None
+    → AllRead fault lines (rows_read readings)
+all_in_order fault lines readings are none =
+    let rows = none_bad fault [] lines readings are none in
+    record { read_is = rows.rows_are; fine = rows.fine }
 
-    by_nodes : SomeRows node_fault nodes → SomeGraph nodes arcs
-    by_nodes (inl rows) =
-        let said = nodes_said nodes rows.0 rows.1 in
-        by_arcs said (some_rows (arc_fault (node_labels said.table)) arcs)
-    by_nodes (inr bad) = inr (bad.0, node bad.1)
+module _ (bytes : List ℕ) (nodes arcs : Part) (nodes_is : part Nodes (lines_of bytes) ≡ Some nodes)
+    (arcs_is : part Arcs (lines_of bytes) ≡ Some arcs) (order : nodes.at ≤ arcs.at) where
+  abbrev attributes : List Line
+  attributes = rows_in (part Attributes (lines_of bytes))
 
--- ---- the file
+  -- Rows without a fault are those of a document.
+  said : (first second third : List Reading) → AreRead nodes.rows first → AreRead arcs.rows second
+      → AreRead attributes third → rows_fault first second third ≡ None
+      → (doc : Doc) × Spells bytes doc
+  said first second third first_are second_are third_are none =
+      let parts =
+      neither_earlier (graph_fault first second) (first_bad attribute_fault [] third) none in
+      let own = first_bad node_fault [] first in
+      let links_fault = first_bad (arc_fault (labels_read (rows_read first))) [] second in
+      let both = neither_or own links_fault parts.0 in
+      let table = nodes_said nodes.rows (rows_read first)
+      (all_in_order node_fault nodes.rows first first_are both.0) in
+      let labels = node_labels table.table in
+      let none_of =
+      subst (λ names. first_bad (arc_fault names) [] second ≡ None) table.labels_are both.1 in
+      let links = arcs_said labels (few_labels table.table table.right) arcs.rows (rows_read second)
+      (has_token Arcs (lines_of bytes) arcs arcs_is)
+      (all_in_order (arc_fault labels) arcs.rows second second_are none_of) in
+      let pairs = attributes_said attributes (rows_read third)
+      (all_in_order attribute_fault attributes third third_are parts.1) in
+      let doc : Doc = record {
+        nodes = table.table;
+        arc_columns = links.columns;
+        arcs = links.arcs;
+        attributes = pairs.attributes;
+      } in
+      let spells : PartsSpell nodes.rows arcs.rows attributes doc = record {
+        nodes_are = table.spells;
+        arcs_are = links.spells;
+        attributes_are = pairs.spells;
+      } in
+      let valid : IsDoc doc = record {
+        nodes_ok = table.right;
+        arcs_ok = links.right;
+        attributes_ok = pairs.right;
+      } in
+      (doc, spelled bytes nodes arcs attributes nodes_is arcs_is refl order (Ok doc) spells valid)
+
+  -- Rows that are read so have a first fault or are those of a document.
+  by_fault : (first second third : List Reading) → AreRead nodes.rows first
+      → AreRead arcs.rows second
+      → AreRead attributes third → (found : Option LgfFault) → rows_fault first second third ≡ found
+      → SomeAnswer bytes
+  by_fault first second third first_are second_are third_are None is =
+      inl (said first second third first_are second_are third_are is)
+  by_fault first second third first_are second_are third_are (Some fault) is =
+      let behind = le-ltb arcs.at nodes.at order in
+      inr (
+        fault,
+        rows_first (lines_of bytes) nodes arcs nodes_is arcs_is fault behind (record {
+          node_readings = first;
+          arc_readings = second;
+          attribute_readings = third;
+          nodes_are = first_are;
+          arcs_are = second_are;
+          attributes_are = third_are;
+          fault_is = is;
+        }),
+      )
+
+  by_rows : SomeAnswer bytes
+  by_rows =
+      let first = some_readings nodes.rows in
+      let second = some_readings arcs.rows in
+      let third = some_readings attributes in
+      by_fault first.0 second.0 third.0 first.1 second.1 third.1
+      (rows_fault first.0 second.0 third.0) refl
 
 module _ (bytes : List ℕ) where
-  -- A fault of the whole file.
-  whole : (fault : LgfFault) → HasFault bytes fault → SomeAnswer bytes
-  whole fault has = inr (fault, has)
-
-  module _ (nodes arcs : Part) (nodes_is : part Nodes (lines_of bytes) ≡ Some nodes)
-      (arcs_is : part Arcs (lines_of bytes) ≡ Some arcs) (order : nodes.at ≤ arcs.at) where
-    abbrev attributes : List Line
-    attributes = rows_in (part Attributes (lines_of bytes))
-
-    told : (fault : LgfFault) → PartsBlame nodes.rows arcs.rows attributes (Lgf fault)
-        → SomeAnswer bytes
-    told fault blames =
-        inr (
-          fault,
-          (blamed bytes nodes arcs attributes nodes_is arcs_is refl order
-              (Err (Lgf fault)) blames).0,
-        )
-
-    said : GraphSaid nodes.rows arcs.rows → AttributesSaid attributes → SomeAnswer bytes
-    said graph pairs =
-        let table = graph.nodes_said in
-        let links = graph.arcs_said in
-        let doc : Doc = record {
-          nodes = table.table;
-          arc_columns = links.columns;
-          arcs = links.arcs;
-          attributes = pairs.attributes;
-        } in
-        let spells : PartsSpell nodes.rows arcs.rows attributes doc = record {
-          nodes_are = table.spells;
-          arcs_are = links.spells;
-          attributes_are = pairs.spells;
-        } in
-        let valid : IsDoc doc = record {
-          nodes_ok = table.right;
-          arcs_ok = links.right;
-          attributes_ok = pairs.right;
-        } in
-        inl (
-          doc,
-          spelled bytes nodes arcs attributes nodes_is arcs_is refl order (Ok doc) spells
-              valid,
-        )
-
-    by_sections : SomeGraph nodes.rows arcs.rows → SomeRows attribute_fault attributes
-        → SomeAnswer bytes
-    by_sections (inl graph) (inl rows) = said graph (attributes_said attributes rows.0 rows.1)
-    by_sections (inl graph) (inr bad) =
-        let table = graph.nodes_said in
-        let links = graph.arcs_said in
-        told bad.0 (attribute_blamed nodes.rows arcs.rows attributes bad.0 table.table links.columns
-        links.arcs
-        table.right table.spells links.right links.spells bad.1)
-    by_sections (inr bad) (inl rows) =
-        let pairs = attributes_said attributes rows.0 rows.1 in
-        told bad.0 (graph_blamed nodes.rows arcs.rows attributes bad.0 pairs.attributes pairs.right
-        pairs.spells bad.1)
-    by_sections (inr bad) (inr other) =
-        told (cond (nat_lt other.0.line bad.0.line) other.0 bad.0)
-        (both_blamed nodes.rows arcs.rows attributes bad.0 other.0 bad.1 other.1)
-
-    ordered : SomeAnswer bytes
-    ordered =
-        by_sections (some_graph nodes.rows arcs.rows (has_token Arcs (lines_of bytes) arcs arcs_is))
-        (some_rows attribute_fault attributes)
-
   by_order : (nodes arcs : Part) → part Nodes (lines_of bytes) ≡ Some nodes
       → part Arcs (lines_of bytes) ≡ Some arcs → (test : Bool) → nat_lt arcs.at nodes.at ≡ test
       → SomeAnswer bytes
   by_order nodes arcs nodes_is arcs_is true tested =
-      whole (record { line = arcs.at; kind = ArcsFirst })
-      (arcs_first nodes arcs nodes_is arcs_is (ltb-true arcs.at nodes.at tested) refl refl)
+      inr (_, arcs_first (lines_of bytes) nodes arcs nodes_is arcs_is tested)
   by_order nodes arcs nodes_is arcs_is false tested =
-      ordered nodes arcs nodes_is arcs_is (omega (arith, ltb-false arcs.at nodes.at tested))
+      by_rows bytes nodes arcs nodes_is arcs_is (omega (arith, ltb-false arcs.at nodes.at tested))
 
   by_parts : (nodes arcs : Option Part) → part Nodes (lines_of bytes) ≡ nodes
       → part Arcs (lines_of bytes) ≡ arcs → SomeAnswer bytes
-  by_parts None arcs nodes_is arcs_is =
-      whole (record { line = length (lines_of bytes) + 1; kind = NoNodes })
-      (no_nodes nodes_is refl refl)
+  by_parts None arcs nodes_is arcs_is = inr (_, no_nodes (lines_of bytes) _ nodes_is refl)
   by_parts (Some nodes) None nodes_is arcs_is =
-      whole (record { line = length (lines_of bytes) + 1; kind = NoArcs })
-      (no_arcs nodes nodes_is arcs_is refl refl)
+      inr (_, no_arcs (lines_of bytes) _ nodes nodes_is arcs_is refl)
   by_parts (Some nodes) (Some arcs) nodes_is arcs_is =
       by_order nodes arcs nodes_is arcs_is (nat_lt arcs.at nodes.at) refl
 

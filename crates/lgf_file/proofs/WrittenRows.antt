@@ -37,8 +37,11 @@ row_words (cell ∷ cells) =
 
 -- A written token has that token alone.
 token_words : (cell : List ℕ) → Words (written cell) (cell ∷ [])
-token_words cell =
-    ([], subst (λ text. Next text cell []) (append-nil (written cell)) (written_reads cell [] tt), refl)
+token_words cell = (
+  [],
+  subst (λ text. Next text cell []) (append-nil (written cell)) (written_reads cell [] tt),
+  refl,
+)
 
 -- The first line of the arcs has its tokens.
 pub head_words : (columns : Cells) → Words (head_text columns) (head_cells columns)
@@ -75,7 +78,8 @@ bare_begins byte bytes starts bare =
 bare_row : (cell rest : List ℕ) → is_bare cell ≡ true → kind_of (cell ++ rest) ≡ Row
 bare_row [] rest bare = absurd (cc)
 bare_row (byte ∷ bytes) rest bare =
-    let parts = and_parts (starts_bare (byte ∷ bytes)) (list_all is_bare_byte (byte ∷ bytes)) bare in
+    let parts =
+    and_parts (starts_bare (byte ∷ bytes)) (list_all is_bare_byte (byte ∷ bytes)) bare in
     let first = and_parts (is_bare_byte byte) (list_all is_bare_byte bytes) parts.1 in
     bare_begins byte (bytes ++ rest) parts.0 first.0
 
@@ -106,7 +110,8 @@ attribute_is_row attribute = written_row attribute.0 (32 ∷ written attribute.1
 -- ---- line ends
 
 -- Where no byte passes for a line end, none is one.
-pub inside_by_test : (bytes : List ℕ) → list_all (λ byte. not (byte == 10)) bytes ≡ true → IsInside bytes
+pub inside_by_test : (bytes : List ℕ) → list_all (λ byte. not (byte == 10)) bytes ≡ true
+    → IsInside bytes
 inside_by_test [] test = tt
 inside_by_test (byte ∷ bytes) test =
     let parts = and_parts (not (byte == 10)) (list_all (λ own. not (own == 10)) bytes) test in

@@ -17,7 +17,8 @@ AllInside [] = Unit {0}
 AllInside (line ∷ lines) = IsInside line × AllInside lines
 
 -- Lines that were joined, each with its end, are these lines again.
-pub lines_joined : (lines : List (List ℕ)) → AllInside lines → lines_of (flat_map ended lines) ≡ lines
+pub lines_joined : (lines : List (List ℕ)) → AllInside lines
+    → lines_of (flat_map ended lines) ≡ lines
 lines_joined [] inside = refl
 lines_joined (line ∷ lines) inside =
     ap lines_of (append_assoc line (10 ∷ []) (flat_map ended lines))
@@ -55,7 +56,8 @@ abbrev pub numbered : ℕ → List (List ℕ) → List Line
 numbered number [] = []
 numbered number (line ∷ lines) = (number, line) ∷ numbered (number + 1) lines
 
--- The lines begin with one that opens a section, or there are none: so a section ends in front of them.
+-- The lines begin with one that opens a section, or there are none: so a section ends in front of
+-- them.
 abbrev pub EndsRows : List (List ℕ) → Type 0
 EndsRows lines = (number : ℕ) → rows_of number lines ≡ []
 

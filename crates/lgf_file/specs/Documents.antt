@@ -44,8 +44,8 @@ pub record AreColumns (columns : Cells) : Type 0 where
   pub differ : has_twice columns ≡ false
   pub no_dash : is_among dash columns ≡ false
 
--- Nodes: one of the columns has their labels, which differ, each row has one token a column, and there are
--- at most 1,048,576.
+-- Nodes: one of the columns has their labels, which differ, each row has one token a column, and
+-- there are at most 1,048,576.
 pub record IsTable (table : Table) : Type 0 where
   pub columns_ok : AreColumns table.columns
   pub labelled : is_among label table.columns ≡ true
@@ -58,8 +58,8 @@ abbrev pub IsLink : Cells → Cells → Link → Type 0
 IsLink labels columns arc =
     (arc.from < length labels) × (arc.to < length labels) × (length arc.values ≡ length columns)
 
--- Arcs between nodes with these labels: where one of the columns has the labels of arcs, these differ, and
--- there are at most 4,194,304 arcs.
+-- Arcs between nodes with these labels: where one of the columns has the labels of arcs, these
+-- differ, and there are at most 4,194,304 arcs.
 pub record AreArcs (labels columns : Cells) (arcs : List Link) : Type 0 where
   pub columns_ok : AreColumns columns
   pub links : All (IsLink labels columns) arcs
@@ -84,7 +84,8 @@ label_at labels place = slice_index_or labels place []
 abbrev pub link_cells : Cells → Link → Cells
 link_cells labels arc = label_at labels arc.from ∷ label_at labels arc.to ∷ arc.values
 
--- The tokens of the first line of the arcs: the names of the columns, or a single - where there are none.
+-- The tokens of the first line of the arcs: the names of the columns, or a single - where there are
+-- none.
 abbrev pub head_cells : Cells → Cells
 head_cells [] = dash ∷ []
 head_cells (column ∷ columns) = column ∷ columns
@@ -97,7 +98,8 @@ arc_rows labels columns arcs = head_cells columns ∷ map (link_cells labels) ar
 abbrev pub attribute_cells : List ℕ × List ℕ → Cells
 attribute_cells attribute = attribute.0 ∷ attribute.1 ∷ []
 
--- The lines are those of the nodes. A section without any line has the sole column of labels and no nodes.
+-- The lines are those of the nodes. A section without any line has the sole column of labels and no
+-- nodes.
 abbrev pub NodesSpell : List Line → Table → Type 0
 NodesSpell [] table = (table.columns ≡ label ∷ []) × (table.rows ≡ [])
 NodesSpell (line ∷ lines) table = Rows (line ∷ lines) (table.columns ∷ table.rows)
@@ -111,9 +113,9 @@ ArcsSpell (line ∷ lines) labels columns arcs = Rows (line ∷ lines) (arc_rows
 abbrev pub AttributesSpell : List Line → List (List ℕ × List ℕ) → Type 0
 AttributesSpell lines attributes = Rows lines (map attribute_cells attributes)
 
--- The bytes spell the document: there are sections of nodes and of arcs, the first one of the nodes stands
--- before the first one of the arcs, and the rows of the first section of each kind are those of the document,
--- which is valid.
+-- The bytes spell the document: there are sections of nodes and of arcs, the first one of the nodes
+-- stands before the first one of the arcs, and the rows of the first section of each kind are those
+-- of the document, which is valid.
 pub record Spells (bytes : List ℕ) (doc : Doc) : Type 0 where
   pub valid : IsDoc doc
   pub node_part : Part

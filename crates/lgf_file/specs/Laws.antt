@@ -13,21 +13,25 @@ PlainSpells = (doc : Doc) → IsDoc doc → Spells (plain doc) doc
 
 -- Bytes spell one document at most.
 abbrev pub OneDocument : Type 0
-OneDocument = (bytes : List ℕ) (one other : Doc) → Spells bytes one → Spells bytes other → one ≡ other
+OneDocument =
+    (bytes : List ℕ) (one other : Doc) → Spells bytes one → Spells bytes other → one ≡ other
 
 -- This is the first fault of the bytes.
 abbrev pub HasFault : List ℕ → LgfFault → Type 0
-HasFault bytes fault = FirstFault (lines_of bytes) fault.line fault.kind
+HasFault bytes fault = FirstFault (lines_of bytes) fault
 
 -- Bytes that have a fault spell no document.
 abbrev pub FaultSpellsNone : Type 0
-FaultSpellsNone = (bytes : List ℕ) (fault : LgfFault) (doc : Doc) → HasFault bytes fault → Spells bytes doc → ⊥
+FaultSpellsNone =
+    (bytes : List ℕ) (fault : LgfFault) (doc : Doc) → HasFault bytes fault → Spells bytes doc → ⊥
 
 -- There is one first fault at most.
 abbrev pub OneFault : Type 0
-OneFault = (bytes : List ℕ) (one other : LgfFault) → HasFault bytes one → HasFault bytes other → one ≡ other
+OneFault = (bytes : List ℕ) (one other : LgfFault) → HasFault bytes one → HasFault bytes other
+    → one ≡ other
 
 -- Bytes spell a document or have a first fault.
 abbrev pub SomeAnswer : Type 0
 SomeAnswer =
-    (bytes : List ℕ) → ((doc : Doc) × Spells bytes doc) ⊎ ((fault : LgfFault) × HasFault bytes fault)
+    (bytes : List ℕ) → ((doc : Doc) × Spells bytes doc) ⊎ ((fault : LgfFault)
+    × HasFault bytes fault)

@@ -38,13 +38,15 @@ arc_lines labels columns arcs =
 -- The lines of the attributes, if there are any.
 abbrev pub attribute_lines : List (List ℕ × List ℕ) → List (List ℕ)
 attribute_lines [] = []
-attribute_lines (attribute ∷ attributes) = codes "@attributes" ∷ map attribute_text (attribute ∷ attributes)
+attribute_lines (attribute ∷ attributes) =
+    codes "@attributes" ∷ map attribute_text (attribute ∷ attributes)
 
 -- The lines of a document.
 abbrev pub plain_lines : Doc → List (List ℕ)
 plain_lines doc =
     node_lines doc.nodes
-    ++ (arc_lines (node_labels doc.nodes) doc.arc_columns doc.arcs ++ attribute_lines doc.attributes)
+    ++ (arc_lines (node_labels doc.nodes) doc.arc_columns doc.arcs ++ attribute_lines
+    doc.attributes)
 
 -- The written document: its lines, each with its end.
 abbrev pub plain : Doc → List ℕ

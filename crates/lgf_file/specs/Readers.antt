@@ -43,11 +43,12 @@ abbrev pub labels_seen : Cells → List Link → Cells
 labels_seen columns arcs = if is_among label columns then arc_labels columns arcs else []
 
 -- Arcs between nodes with these labels, with their own labels.
-pub record HoldsArcs (nodes : Cells) (head : Head) (arcs : List Link) (labels : Cells) : Type 0 where
-  pub few_nodes : length nodes ≤ MAX_NODES
-  pub head_ok : IsHead head
-  pub arcs_ok : AreArcs nodes head.columns arcs
-  pub labels_are : labels ≡ labels_seen head.columns arcs
+pub record HoldsArcs (nodes : Cells) (head : Head) (arcs : List Link) (labels : Cells) : Type 0
+  where
+    pub few_nodes : length nodes ≤ MAX_NODES
+    pub head_ok : IsHead head
+    pub arcs_ok : AreArcs nodes head.columns arcs
+    pub labels_are : labels ≡ labels_seen head.columns arcs
 
 -- Nothing was read yet, or a head and such arcs.
 abbrev pub ArcsSound : Cells → Option Head → List Link → Cells → Type 0
@@ -56,7 +57,8 @@ ArcsSound nodes (Some head) arcs labels = HoldsArcs nodes head arcs labels
 
 -- Attributes, with their names.
 abbrev pub AttributesSound : List (List ℕ × List ℕ) → Cells → Type 0
-AttributesSound attributes names = AreAttributes attributes × (names ≡ map (λ attribute. attribute.0) attributes)
+AttributesSound attributes names =
+    AreAttributes attributes × (names ≡ map (λ attribute. attribute.0) attributes)
 
 -- The places of the labels that an arc has as its source and its target.
 pub record IsEnds (labels cells : Cells) (from to : ℕ) : Type 0 where
@@ -67,8 +69,10 @@ pub record IsEnds (labels cells : Cells) (from to : ℕ) : Type 0 where
 
 -- Whether arcs have labels and the label of these values is one of the others.
 abbrev pub is_label_among : Cells → Cells → Cells → Bool
-is_label_among columns labels values = is_among label columns && is_among (label_in columns values) labels
+is_label_among columns labels values =
+    is_among label columns && is_among (label_in columns values) labels
 
 -- The labels, and behind them the label of these values if arcs have labels.
 abbrev pub labels_with : Cells → Cells → Cells → Cells
-labels_with columns labels values = if is_among label columns then labels ++ label_in columns values ∷ [] else labels
+labels_with columns labels values =
+    if is_among label columns then labels ++ label_in columns values ∷ [] else labels

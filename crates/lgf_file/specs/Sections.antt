@@ -22,8 +22,8 @@ section_named name =
     else (if bytes_eq name (codes "attributes") then Some Attributes
     else None))
 
--- What a line that isn't passed over is by its first byte that is no blank: one that begins with @ opens the
--- section whose name follows at once, and any other is a row.
+-- What a line that isn't passed over is by its first byte that is no blank: one that begins with @
+-- opens the section whose name follows at once, and any other is a row.
 abbrev pub kind_from : List ℕ → LineKind
 kind_from [] = Row
 kind_from (byte ∷ bytes) = if byte == 64 then Opens (section_named (name_of bytes)) else Row
@@ -49,8 +49,8 @@ with_line Passed line rows = rows
 with_line (Opens section) line rows = []
 with_line Row line rows = line ∷ rows
 
--- The rows of a section, which goes up to the next line that opens one. The first of these lines has this
--- number.
+-- The rows of a section, which goes up to the next line that opens one. The first of these lines
+-- has this number.
 abbrev pub rows_of : ℕ → List (List ℕ) → List Line
 rows_of number [] = []
 rows_of number (line ∷ lines) = with_line (kind_of line) (number, line) (rows_of (number + 1) lines)
@@ -64,7 +64,8 @@ pub record Part : Type 0 where
 abbrev pub part_from : ℕ → Section → List (List ℕ) → Option Part
 part_from number section [] = None
 part_from number section (line ∷ lines) =
-    if is_opened_by section (kind_of line) then Some (record { at = number; rows = rows_of (number + 1) lines })
+    if is_opened_by section (kind_of line) then Some
+    (record { at = number; rows = rows_of (number + 1) lines })
     else part_from (number + 1) section lines
 
 -- The first section of its kind in a file.

@@ -20,9 +20,11 @@ returns-then-branch-clause-fault c =
     let ends = subst (λ own. IsEnds nodes own c.in-Some-ends_of.from c.in-Some-ends_of.to)
     row.ensures.value c.in-Some-ends_of.ensures.found in
     let values = c.as_slice.ensures.value ∙ c.values_of-values.ensures in
-    let twice = ap (is_label_among head.columns labels) (sym values) ∙ sym c.in_ok-is_twice.ensures.twice
+    let twice =
+    ap (is_label_among head.columns labels) (sym values) ∙ sym c.in_ok-is_twice.ensures.twice
     ∙ c.if-branch.true in
-    sym (arc_fault_is nodes head c.args.arcs.now.items labels c.requires room c.args.cells.items wide _ _
+    sym (arc_fault_is nodes head c.args.arcs.now.items labels c.requires room c.args.cells.items
+    wide _ _
     ends _ twice)
 
 -- ---- where the arc's label isn't among the others
@@ -34,7 +36,8 @@ module _ (c : goal.In_ok-push) where
   wide : width_fault (2 + length c.args.head.now.columns) c.args.cells.items ≡ None
   wide =
       sym (c.in_default.ensures
-      ∙ ap (λ own. width_fault (2 + length own) c.as_slice-row.result.now) c.as_slice-columns.ensures
+      ∙ ap (λ own. width_fault (2 + length own) c.as_slice-row.result.now)
+      c.as_slice-columns.ensures
       ∙ ap (width_fault (2 + length c.args.head.now.columns)) c.as_slice-row.ensures.value)
 
   ends : IsEnds c.args.nodes.now c.args.cells.items c.in-Some-ends_of.from c.in-Some-ends_of.to
@@ -48,7 +51,8 @@ pub returns-clause-fault : goal.returns-clause-fault
 returns-clause-fault c =
     let head = c.args.head.now in
     let values = c.as_slice.ensures.value ∙ c.values_of-values.ensures in
-    sym (arc_fault_is c.args.nodes.now head c.args.arcs.now.items c.args.labels.now c.requires (room c)
+    sym (arc_fault_is c.args.nodes.now head c.args.arcs.now.items c.args.labels.now c.requires
+    (room c)
     c.args.cells.items (wide c) _ _ (ends c) _
     (ap (is_label_among head.columns c.args.labels.now) (sym values) ∙ apart c))
 
@@ -59,7 +63,8 @@ returns-clause-sound c =
     let labels = c.args.labels.now in
     let values = c.from_vec-values.ensures ∙ sym c.as_slice.ensures.value in
     subst (λ own. HoldsArcs nodes head own c.is_twice.new.labels) (sym c.in_ok-push.ensures.items)
-    (arc_behind nodes head c.args.arcs.now.items labels c.requires (room c) c.args.cells.items (wide c)
+    (arc_behind nodes head c.args.arcs.now.items labels c.requires (room c) c.args.cells.items
+    (wide c)
     _ _ (ends c) c.from_vec-values.result c.is_twice.new.labels
     (c.from_vec-values.ensures ∙ c.values_of-values.ensures)
     (ap (is_label_among head.columns labels) values ∙ apart c)

@@ -14,7 +14,8 @@ returns-then-not-fresh c =
     c.in_ok-name.ensures ∙ c.as_bytes.ensures ∙ c.column-item.is
     ∙ get_or_default columns place _ [] c.loop-column-test.true in
     let among = not-false _ (sym c.in_ok-fresh.ensures.fresh ∙ c.if-not-fresh.true) in
-    sym (twice_at columns c.loop-column.seen place _ c.loop-column-test.true c.loop-column.invariant.seen name among)
+    sym (twice_at columns c.loop-column.seen place _ c.loop-column-test.true
+    c.loop-column.invariant.seen name among)
 
 pub loop-column-preserved : goal.loop-column-preserved
 loop-column-preserved c =

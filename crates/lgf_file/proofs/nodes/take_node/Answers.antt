@@ -12,8 +12,14 @@ use Rattle.lgf_file.proofs.nodes.take_node.Goals as goal
 pub copy_label-requires-clause-within : goal.copy_label-requires-clause-within
 copy_label-requires-clause-within c =
     let head = c.args.head.now in
-    let wide = width_is c.len-2.result c.as_slice-row.result.now (sym c.width_fault.ensures ∙ c.in_default.is) in
-    omega (arith, place_within head.columns c.requires.table.labelled, c.requires.head_ok, c.len-2.ensures)
+    let wide = width_is c.len-2.result c.as_slice-row.result.now (sym c.width_fault.ensures
+    ∙ c.in_default.is) in
+    omega (
+      arith,
+      place_within head.columns c.requires.table.labelled,
+      c.requires.head_ok,
+      c.len-2.ensures,
+    )
 
 -- ---- where the node's label isn't among the others
 
@@ -21,7 +27,8 @@ module _ (c : goal.In_ok-push) where
   wide : length c.args.cells.items ≡ length c.args.head.now.columns
   wide =
       ap length (sym c.as_slice-row.ensures.value)
-      ∙ width_is c.len-2.result c.as_slice-row.result.now (sym c.width_fault.ensures ∙ c.in_default.is)
+      ∙ width_is c.len-2.result c.as_slice-row.result.now (sym c.width_fault.ensures
+      ∙ c.in_default.is)
       ∙ c.len-2.ensures
 
   label : c.in_ok-label.label ≡ label_in c.args.head.now.columns c.args.cells.items
@@ -36,7 +43,8 @@ module _ (c : goal.In_ok-push) where
 
 pub returns-clause-fault : goal.returns-clause-fault
 returns-clause-fault c =
-    sym (node_right c.args.head.now c.args.rows.now.items c.args.labels.now c.args.cells.items c.requires
+    sym (node_right c.args.head.now c.args.rows.now.items c.args.labels.now c.args.cells.items
+    c.requires
     (room c) (wide c) (fresh c))
 
 pub returns-clause-sound : goal.returns-clause-sound
@@ -44,7 +52,8 @@ returns-clause-sound c =
     let rows = c.args.rows.now.items in
     let labels = c.args.labels.now in
     let name = c.in_ok-label.label in
-    node_push c.args.head.now rows labels c.args.cells.items c.requires (room c) (wide c) (fresh c) _ _
+    node_push c.args.head.now rows labels c.args.cells.items c.requires (room c) (wide c) (fresh c)
+    _ _
     (c.in_ok-push.ensures.items ∙ ap (λ own. rows ++ own ∷ []) c.from_vec.ensures)
     (c.in_ok-fresh.ensures.inserted
     ∙ ap (λ fresh. if fresh then labels ++ name ∷ [] else labels) c.if-not-fresh.false

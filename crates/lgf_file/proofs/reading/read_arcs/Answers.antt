@@ -8,4 +8,5 @@ pub returns-in_err-read_rows-clause-bad : goal.returns-in_err-read_rows-clause-b
 returns-in_err-read_rows-clause-bad c =
     let lines = rows_at c.args.begun.now.at c.args.begun.now.rest.now in
     let p = err_from_is_err_and c.from_residual.result c.from_residual.ensures.1 in
-    rw (p.1, p.2) (subst (λ labels. Blames (arc_fault labels) lines c.in_err-read_rows.field-0.0) c.new-reader.ensures.nodes c.in_err-read_rows.ensures.bad)
+    rw (p.1, p.2) (subst (λ labels. Blames (arc_fault labels) lines c.in_err-read_rows.field-0.0)
+    c.new-reader.ensures.nodes c.in_err-read_rows.ensures.bad)

@@ -1,18 +1,17 @@
-use Rattle.std.proofs.Common.{◌≡◌, ◌++◌, ◌∷◌, [], Some, None, Option, sym, ap, ◌∙◌, subst, arith}
+use Rattle.std.proofs.Common.{◌≡◌, ◌++◌, ◌∷◌, [], Some, None, Option, refl, sym, ap, ◌∙◌, subst, arith}
 use Rattle.std.specs.Prelude.{IfSome, IfNone}
 use Rattle.token_text.specs.Lines.{lines_of}
 use Rattle.lgf_file.specs.Sections.{rows_of}
 use Rattle.lgf_file.specs.Rows.{Words}
-use Rattle.lgf_file.specs.Faults.{at_fault}
 use Rattle.lgf_file.specs.Reading.{Blames}
-use Rattle.lgf_file.specs.declared.faults.LgfKind.{LgfKind}
+use Rattle.lgf_file.specs.declared.faults.LgfKind.TheVariants.{Token}
 use Rattle.lgf_file.proofs.Progress.{push, fail}
 use Rattle.lgf_file.proofs.RowWords.{first_has_token}
 use Rattle.lgf_file.proofs.rows.read_rows.Goals as goal
 
 -- what is told where there is no fault
-at_none : {Told : Type 0} {found : Option LgfKind} → found ≡ None → IfNone found Told → Told
-at_none {Told} is told = subst (λ own. IfNone own Told) is told
+at_none : {T Told : Type 0} {found : Option T} → found ≡ None → IfNone found Told → Told
+at_none {T} {Told} is told = subst (λ own. IfNone own Told) is told
 
 pub returns-in-Some-3-clause-bad : goal.returns-in-Some-3-clause-bad
 returns-in-Some-3-clause-bad g c =
@@ -27,8 +26,9 @@ returns-in-Some-3-clause-bad g c =
     ap (λ labels. reads.fault labels read cells) (sym c.rows.invariant.labels)
     ∙ sym c.in_ok-kind.ensures.fault ∙ c.in-Some-3.is in
     subst (Blames fault lines) (sym c.fault_at-in-Some-3.ensures)
-    (fail fault lines read _ _ (c.in-Some.row.number, c.in-Some.row.line.now) c.in-Some-3.kind
-    c.rows.invariant.so_far c.in-Some.ensures.rows (at_fault cells words told))
+    (fail fault lines read _ _ (c.in-Some.row.number, c.in-Some.row.line.now) (Some cells)
+    c.in-Some-3.kind
+    c.rows.invariant.so_far c.in-Some.ensures.rows words told)
 
 pub rows-preserved : goal.rows-preserved
 rows-preserved g c =
@@ -45,7 +45,8 @@ rows-preserved g c =
     ∙ sym took.fault ∙ c.in_default-3.is in
     let after = c.take.new.self in
     let taken : reads.read after ≡ read ++ cells ∷ [] = at_none c.in_default-3.is took.taken in
-    let labels : reads.labels after ≡ reads.labels c.rows.reader = at_none c.in_default-3.is took.labels in
+    let labels : reads.labels after ≡ reads.labels c.rows.reader =
+    at_none c.in_default-3.is took.labels in
     record {
       so_far = push fault lines read _ _ _ (c.in-Some.row.number, c.in-Some.row.line.now) cells
           c.rows.invariant.so_far c.in-Some.ensures.rows words fine taken;
@@ -57,6 +58,18 @@ rows-preserved g c =
 pub take-requires-clause-some : goal.take-requires-clause-some
 take-requires-clause-some g c =
     let row = c.in-Some.row in
-    first_has_token c.rows.at (lines_of c.rows.rest.now) (row.number, row.line.now) _ c.in-Some-2.cells.items
+    first_has_token c.rows.at (lines_of c.rows.rest.now) (row.number, row.line.now) _
+    c.in-Some-2.cells.items
     c.in-Some.ensures.rows
     (rw c.in-Some-2.is at c.in_ok-cells.ensures.found)
+
+pub returns-in_default-2-clause-bad : goal.returns-in_default-2-clause-bad
+returns-in_default-2-clause-bad g c =
+    let reads = g.R.RowReader in
+    let fault = reads.fault (reads.labels c.args.reader.now) in
+    let lines = rows_of c.args.number (lines_of c.args.bytes.now) in
+    let unread = at_none c.in_default-2.is c.in_ok-cells.ensures.none in
+    subst (Blames fault lines) (sym c.fault_at.ensures)
+    (fail fault lines (reads.read c.rows.reader) _ _ (c.in-Some.row.number, c.in-Some.row.line.now)
+    None Token
+    c.rows.invariant.so_far c.in-Some.ensures.rows unread refl)

@@ -11,23 +11,28 @@ use Rattle.lgf_file.proofs.Found.{or_later, one_on}
 use Rattle.lgf_file.proofs.sections.find_sections.Invariants.{Sought}
 use Rattle.lgf_file.proofs.sections.find_sections.Goals as goal
 
-sought_on : (bytes rest line after : List ℕ) (at : ℕ) (section : Section) (found next : Option Begun)
+sought_on : (bytes rest line after : List ℕ) (at : ℕ) (section : Section)
+    (found next : Option Begun)
     (kind : LineKind) (opens : Bool) → Sought bytes rest at section found
-    → lines_of rest ≡ line ∷ lines_of after → kind ≡ kind_of line → opens ≡ is_opened_by section kind
+    → lines_of rest ≡ line ∷ lines_of after → kind ≡ kind_of line
+    → opens ≡ is_opened_by section kind
     → option_map (λ (b : Begun). section_at b.at b.rest.now) next
-    ≡ found_or (option_map (λ (b : Begun). section_at b.at b.rest.now) found) opens (section_at at after)
+    ≡ found_or (option_map (λ (b : Begun). section_at b.at b.rest.now) found) opens
+    (section_at at after)
     → IfSome next (λ b. b.at + length b.rest.now ≤ length bytes)
     → Sought bytes after (at + 1) section next
-sought_on bytes rest line after at section found next kind opens was lines kind_is opens_is next_is room = record {
-  same =
-      let before = option_map (λ (b : Begun). section_at b.at b.rest.now) found in
-      let later = part_from (at + 1) section (lines_of after) in
-      was.same ∙ one_on section at before line rest after lines
-      ∙ ap (λ k. or_later (found_or before (is_opened_by section k) (section_at at after)) later) (sym kind_is)
-      ∙ ap (λ o. or_later (found_or before o (section_at at after)) later) (sym opens_is)
-      ∙ ap (λ f. or_later f later) (sym next_is);
-  room = room;
-}
+sought_on bytes rest line after at section found next kind opens was lines kind_is opens_is next_is room =
+    record {
+      same =
+          let before = option_map (λ (b : Begun). section_at b.at b.rest.now) found in
+          let later = part_from (at + 1) section (lines_of after) in
+          was.same ∙ one_on section at before line rest after lines
+          ∙ ap (λ k. or_later (found_or before (is_opened_by section k) (section_at at after)) later)
+          (sym kind_is)
+          ∙ ap (λ o. or_later (found_or before o (section_at at after)) later) (sym opens_is)
+          ∙ ap (λ f. or_later f later) (sym next_is);
+      room = room;
+    }
 
 pub lines-preserved : goal.lines-preserved
 lines-preserved c =
@@ -35,12 +40,17 @@ lines-preserved c =
     let was = c.lines.invariant in
     let line = c.in-Some.ensures.line in
     let kind = c.kind_of-kind.ensures in
-    let here : c.lines.at + length c.in-Some.after.now ≤ length bytes = omega (arith, c.in-Some.ensures.less, was.room) in
+    let here : c.lines.at + length c.in-Some.after.now ≤ length bytes =
+    omega (arith, c.in-Some.ensures.less, was.room) in
     record {
-      nodes = sought_on bytes _ _ _ c.lines.at Nodes _ _ _ _ was.nodes line kind c.is_opened_by.ensures
-          c.found_or-nodes.ensures.found (c.found_or-nodes.ensures.room (length bytes) was.nodes.room here);
-      arcs = sought_on bytes _ _ _ c.lines.at Arcs _ _ _ _ was.arcs line kind c.is_opened_by-in-Some.ensures
-          c.found_or-arcs.ensures.found (c.found_or-arcs.ensures.room (length bytes) was.arcs.room here);
+      nodes =
+          sought_on bytes _ _ _ c.lines.at Nodes _ _ _ _ was.nodes line kind c.is_opened_by.ensures
+          c.found_or-nodes.ensures.found
+          (c.found_or-nodes.ensures.room (length bytes) was.nodes.room here);
+      arcs = sought_on bytes _ _ _ c.lines.at Arcs _ _ _ _ was.arcs line kind
+          c.is_opened_by-in-Some.ensures
+          c.found_or-arcs.ensures.found (c.found_or-arcs.ensures.room (length bytes) was.arcs.room
+          here);
       attributes = sought_on bytes _ _ _ c.lines.at Attributes _ _ _ _ was.attributes line kind
           c.is_opened_by-in-Some-2.ensures c.found_or-attributes.ensures.found
           (c.found_or-attributes.ensures.room (length bytes) was.attributes.room here);

@@ -10,10 +10,12 @@ use Rattle.lgf_file.proofs.Found.{or_later}
 use Rattle.lgf_file.proofs.sections.find_sections.Given as goal
 
 -- The first section of its kind was found, or stands among the lines that are left.
-pub record Sought (bytes rest : List ℕ) (at : ℕ) (section : Section) (found : Option Begun) : Type 0 where
-  pub same : part section (lines_of bytes)
-      ≡ or_later (option_map (λ b. section_at b.at b.rest.now) found) (part_from at section (lines_of rest))
-  pub room : IfSome found (λ b. b.at + length b.rest.now ≤ length bytes)
+pub record Sought (bytes rest : List ℕ) (at : ℕ) (section : Section) (found : Option Begun) : Type 0
+  where
+    pub same : part section (lines_of bytes)
+        ≡ or_later (option_map (λ b. section_at b.at b.rest.now) found)
+        (part_from at section (lines_of rest))
+    pub room : IfSome found (λ b. b.at + length b.rest.now ≤ length bytes)
 
 abbrev pub invariant-lines : goal.invariant-lines
 invariant-lines l = record {

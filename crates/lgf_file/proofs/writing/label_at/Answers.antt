@@ -7,7 +7,8 @@ pub bounds-as_slice-place : goal.bounds-as_slice-place
 bounds-as_slice-place c =
     let cells = c.index-as_slice-row.result in
     let is : cells ≡ get_or c.args.nodes.now.rows c.args.row cells = cc in
-    let place = place_in_row c.args.nodes.now c.requires.valid c.args.row cells c.requires.within is in
+    let place =
+    place_in_row c.args.nodes.now c.requires.valid c.args.row cells c.requires.within is in
     let same : length c.as_slice-2.result.now ≡ length cells = ap length c.as_slice-2.ensures in
     omega arith
 
@@ -18,4 +19,5 @@ returns c =
     let is : cells ≡ get_or c.args.nodes.now.rows c.args.row cells = cc in
     let found_is : found ≡ get_or cells (label_place c.args.nodes.now.columns) found = cc in
     c.as_bytes.ensures
-    ∙ label_of_row c.args.nodes.now c.requires.valid c.args.row cells c.requires.within is found found_is
+    ∙ label_of_row c.args.nodes.now c.requires.valid c.args.row cells c.requires.within is found
+    found_is

@@ -10,7 +10,8 @@ returns-then-has_dash-clause-taken c =
     let cells = c.args.cells.items in
     let columns = c.new-then-has_dash.ensures.columns ∙ c.new.ensures.items in
     let one = sym c.args.cells.ok.0 ∙ sym c.len.ensures ∙ c.if-len-eq1.true in
-    let dash_among = ap (is_among dash) (sym c.as_slice.ensures.value) ∙ sym c.if-has_dash.ensures in
+    let dash_among =
+    ap (is_among dash) (sym c.as_slice.ensures.value) ∙ sym c.if-has_dash.ensures in
     head_alone self.nodes.now _ self.arcs.items cells
     (no_arcs self.nodes.now self.head self.arcs.items self.labels c.requires.sound c.requires.first)
     (ap head_cells columns ∙ sole_dash cells one dash_among)

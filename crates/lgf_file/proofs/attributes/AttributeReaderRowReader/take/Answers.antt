@@ -15,7 +15,8 @@ returns-then-not-fresh-clause-fault c =
     let is = c.in_ok-name.ensures ∙ c.as_bytes.ensures ∙ c.index.ensures in
     let twice = not-false (is_among name names)
     (sym c.in_ok-fresh.ensures.fresh ∙ c.if-not-fresh.true) in
-    sym (attribute_fault_is c.args.self.now.attributes.items names c.requires.sound c.args.cells.items wide
+    sym (attribute_fault_is c.args.self.now.attributes.items names c.requires.sound
+    c.args.cells.items wide
     name c.index.result.now is _ twice)
 
 -- ---- where the name isn't among the others
@@ -42,7 +43,8 @@ returns-clause-sound c =
     let name = c.in_ok-name.name in
     subst (λ own. AttributesSound own c.insert.new.self)
     (sym {A = List (List ℕ × List ℕ)} c.in_ok-push.ensures.items)
-    (attribute_behind c.args.self.now.attributes.items names c.requires.sound c.args.cells.items (wide c) name
+    (attribute_behind c.args.self.now.attributes.items names c.requires.sound c.args.cells.items
+    (wide c) name
     c.index.result.now (copied c) c.pair_of.result c.insert.new.self c.pair_of.ensures (apart c)
     (c.in_ok-fresh.ensures.inserted
     ∙ ap (λ fresh. if fresh then names ++ name ∷ [] else names) c.if-not-fresh.false))
