@@ -1,0 +1,10 @@
+pub mod Faults
+pub mod Chains
+pub mod Present
+pub mod Snaps
+pub mod State
+pub mod Steps
+pub mod Room
+pub mod Verdict
+pub mod Outcome
+pub mod Parts
