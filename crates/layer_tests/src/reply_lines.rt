@@ -8,10 +8,14 @@ use report_text::{
 use std::alloc::{AllocError, Global};
 use token_text::{Text, copy_text};
 
-/// Whether this is the text of the reply.
-pub fn is_text(alloc: Global, reply: &Reply, wanted: &[u8]) -> Result<bool, AllocError> {
-    let text = reply_bytes(alloc, reply)?;
-    Ok(text.as_slice() == wanted)
+/// Whether this is the text of the reply, which is dropped here, once for all tests: a reply has many variants.
+pub fn is_text(alloc: Global, reply: Reply, wanted: &[u8]) -> bool {
+    let text = reply_bytes(alloc, &reply);
+    drop(reply);
+    match text {
+        Ok(bytes) => bytes.as_slice() == wanted,
+        Err(_) => false,
+    }
 }
 
 /// A word.
@@ -114,48 +118,97 @@ pub fn pairs(alloc: Global, count: usize) -> Result<List<PairLine>, AllocError> 
     Ok(List::from_vec(lines))
 }
 
-/// A node with a path to it.
-pub fn reached(
-    alloc: Global,
-    node: &[u8],
-    dist: i64,
-    arc: Option<&[u8]>,
-) -> Result<PathLine, AllocError> {
-    let node = word(alloc, node)?;
-    match arc {
-        None => Ok(PathLine::Reached {
-            node,
-            dist,
-            arc: None,
-        }),
-        Some(name) => Ok(PathLine::Reached {
-            node,
-            dist,
-            arc: Some(word(alloc, name)?),
-        }),
+// A node, its distance where there is a path, and the last arc of that, which the start lacks.
+const PATHS: [(&[u8], Option<i64>, Option<&[u8]>); 5] = [
+    (b"s", Some(0), None),
+    (b"c d", None, None),
+    (b"b", Some(i64::MIN), Some(b"f")),
+    (b"", Some(i64::MAX), Some(b"")),
+    (b"e", None, None),
+];
+
+// The name, where there is one.
+fn option(alloc: Global, name: Option<&[u8]>) -> Result<Option<Text>, AllocError> {
+    match name {
+        None => Ok(None),
+        Some(bytes) => Ok(Some(word(alloc, bytes)?)),
     }
 }
 
-/// A guard of this name.
-pub fn guard(
-    alloc: Global,
-    name: &[u8],
-    sort: ItemSort,
-    numbers: GuardNumbers,
-) -> Result<GuardLine, AllocError> {
-    let name = word(alloc, name)?;
-    Ok(GuardLine {
-        name,
-        sort,
-        numbers,
-    })
+/// The first so many nodes, as paths reach them.
+pub fn paths(alloc: Global, count: usize) -> Result<List<PathLine>, AllocError> {
+    let mut lines = Vec::new(alloc);
+    for row in PATHS.iter().take(count) {
+        let node = word(alloc, row.0)?;
+        match row.1 {
+            None => lines.push(PathLine::Unreached { node })?,
+            Some(dist) => {
+                let arc = option(alloc, row.2)?;
+                lines.push(PathLine::Reached { node, dist, arc })?;
+            }
+        }
+    }
+    Ok(List::from_vec(lines))
 }
 
-/// A snapshot that is valid, with the numbers of what was added, or one that is stale.
-pub fn snap(alloc: Global, name: &[u8], added: Option<(u32, u32)>) -> Result<SnapLine, AllocError> {
-    let name = word(alloc, name)?;
-    match added {
-        Some((nodes, arcs)) => Ok(SnapLine::Valid { name, nodes, arcs }),
-        None => Ok(SnapLine::Stale { name }),
+// A guard of each kind: its name, its sort and its numbers.
+const GUARDS: [(&[u8], ItemSort); 6] = [
+    (b"q", ItemSort::Node),
+    (b"l 1", ItemSort::Arc),
+    (b"s", ItemSort::Arc),
+    (b"o", ItemSort::Arc),
+    (b"f", ItemSort::Node),
+    (b"t", ItemSort::Arc),
+];
+
+// The numbers of the guard at this place.
+fn numbers(place: usize) -> GuardNumbers {
+    match place {
+        0 => GuardNumbers::Quota {
+            k: 4_194_304,
+            items: 0,
+        },
+        1 => GuardNumbers::Loopless { items: u32::MAX },
+        2 => GuardNumbers::Simple { items: 0 },
+        3 => GuardNumbers::OutCap {
+            k: 0,
+            items: u32::MAX,
+        },
+        4 => GuardNumbers::Fuse { left: 1 },
+        _ => GuardNumbers::Tally {
+            added: u64::MAX,
+            erased: 0,
+            moved: 1,
+        },
     }
+}
+
+/// The first so many guards.
+pub fn guards(alloc: Global, count: usize) -> Result<List<GuardLine>, AllocError> {
+    let mut lines = Vec::new(alloc);
+    for (place, row) in GUARDS.iter().take(count).enumerate() {
+        let name = word(alloc, row.0)?;
+        lines.push(GuardLine {
+            name,
+            sort: row.1,
+            numbers: numbers(place),
+        })?;
+    }
+    Ok(List::from_vec(lines))
+}
+
+// A snapshot, and what was added where it is valid.
+const SNAPS: [(&[u8], Option<(u32, u32)>); 2] = [(b"s", Some((0, u32::MAX))), (b"", None)];
+
+/// The first so many snapshots.
+pub fn snaps(alloc: Global, count: usize) -> Result<List<SnapLine>, AllocError> {
+    let mut lines = Vec::new(alloc);
+    for row in SNAPS.iter().take(count) {
+        let name = word(alloc, row.0)?;
+        match row.1 {
+            Some((nodes, arcs)) => lines.push(SnapLine::Valid { name, nodes, arcs })?,
+            None => lines.push(SnapLine::Stale { name })?,
+        }
+    }
+    Ok(List::from_vec(lines))
 }

@@ -1,9 +1,8 @@
 //! The texts of listings, of single values and of saves.
 
-use crate::reply_lines::{arcs, guard, is_text, names, nodes, snap, word};
-use base_items::{ItemSort, List};
-use report_text::{GuardLine, GuardNumbers, Reply, SnapLine};
-use std::alloc::{AllocError, Global};
+use crate::reply_lines::{arcs, guards, is_text, names, nodes, snaps, word};
+use base_items::List;
+use report_text::Reply;
 use std::test::Fail;
 
 const NODES: [&[u8]; 3] = [
@@ -48,11 +47,11 @@ fn lists_items(rt: HostRuntime) -> Result<(), Fail> {
     let alloc = rt.alloc();
     for count in 0..3 {
         assert!(rt;
-            is_text(alloc, &Reply::Nodes(nodes(alloc, count)?), NODES[count])?,
+            is_text(alloc, Reply::Nodes(nodes(alloc, count)?), NODES[count]),
             "at {count}"
         );
         assert!(rt;
-            is_text(alloc, &Reply::Items(nodes(alloc, count)?), ITEMS[count])?,
+            is_text(alloc, Reply::Items(nodes(alloc, count)?), ITEMS[count]),
             "at {count}"
         );
     }
@@ -64,15 +63,15 @@ fn lists_arcs(rt: HostRuntime) -> Result<(), Fail> {
     let alloc = rt.alloc();
     for count in 0..3 {
         assert!(rt;
-            is_text(alloc, &Reply::Arcs(arcs(alloc, count)?), ARCS[count])?,
+            is_text(alloc, Reply::Arcs(arcs(alloc, count)?), ARCS[count]),
             "at {count}"
         );
         assert!(rt;
-            is_text(alloc, &Reply::Out(arcs(alloc, count)?), OUT[count])?,
+            is_text(alloc, Reply::Out(arcs(alloc, count)?), OUT[count]),
             "at {count}"
         );
         assert!(rt;
-            is_text(alloc, &Reply::In(arcs(alloc, count)?), IN[count])?,
+            is_text(alloc, Reply::In(arcs(alloc, count)?), IN[count]),
             "at {count}"
         );
     }
@@ -84,51 +83,32 @@ fn lists_names(rt: HostRuntime) -> Result<(), Fail> {
     let alloc = rt.alloc();
     for count in 0..4 {
         assert!(rt;
-            is_text(alloc, &Reply::Short(names(alloc, count)?), SHORT[count])?,
+            is_text(alloc, Reply::Short(names(alloc, count)?), SHORT[count]),
             "at {count}"
         );
     }
     Ok(())
 }
 
-const GUARDS: &[u8] =
-    b"g q node quota 4194304 0\ng \"l 1\" arc loopless 4294967295\ng s arc simple 0\n\
-g o arc outcap 0 4294967295\ng f node fuse 1\ng t arc tally 18446744073709551615 0 1\nguards 6\n";
-
-// A guard of each kind.
-fn guards(alloc: Global) -> Result<List<GuardLine>, AllocError> {
-    let mut lines = Vec::new(alloc);
-    let quota = GuardNumbers::Quota {
-        k: 4_194_304,
-        items: 0,
-    };
-    lines.push(guard(alloc, b"q", ItemSort::Node, quota)?)?;
-    let loopless = GuardNumbers::Loopless { items: u32::MAX };
-    lines.push(guard(alloc, b"l 1", ItemSort::Arc, loopless)?)?;
-    let simple = GuardNumbers::Simple { items: 0 };
-    lines.push(guard(alloc, b"s", ItemSort::Arc, simple)?)?;
-    let outcap = GuardNumbers::OutCap {
-        k: 0,
-        items: u32::MAX,
-    };
-    lines.push(guard(alloc, b"o", ItemSort::Arc, outcap)?)?;
-    let fuse = GuardNumbers::Fuse { left: 1 };
-    lines.push(guard(alloc, b"f", ItemSort::Node, fuse)?)?;
-    let tally = GuardNumbers::Tally {
-        added: u64::MAX,
-        erased: 0,
-        moved: 1,
-    };
-    lines.push(guard(alloc, b"t", ItemSort::Arc, tally)?)?;
-    Ok(List::from_vec(lines))
-}
+const GUARDS: [(usize, &[u8]); 3] = [
+    (0, b"guards 0\n"),
+    (1, b"g q node quota 4194304 0\nguards 1\n"),
+    (
+        6,
+        b"g q node quota 4194304 0\ng \"l 1\" arc loopless 4294967295\ng s arc simple 0\n\
+          g o arc outcap 0 4294967295\ng f node fuse 1\ng t arc tally 18446744073709551615 0 1\nguards 6\n",
+    ),
+];
 
 #[test]
 fn lists_guards(rt: HostRuntime) -> Result<(), Fail> {
     let alloc = rt.alloc();
-    let none = Reply::Guards(List::from_vec(Vec::new(alloc)));
-    assert!(rt; is_text(alloc, &none, b"guards 0\n")?);
-    assert!(rt; is_text(alloc, &Reply::Guards(guards(alloc)?), GUARDS)?);
+    for (count, wanted) in GUARDS {
+        assert!(rt;
+            is_text(alloc, Reply::Guards(guards(alloc, count)?), wanted),
+            "at {count}"
+        );
+    }
     Ok(())
 }
 
@@ -138,24 +118,12 @@ const SNAPS: [&[u8]; 3] = [
     b"k s valid 0 4294967295\nk \"\" stale\nsnaps 2\n",
 ];
 
-// The first so many of two snapshots.
-fn snaps(alloc: Global, count: usize) -> Result<List<SnapLine>, AllocError> {
-    let mut lines = Vec::new(alloc);
-    if count > 0 {
-        lines.push(snap(alloc, b"s", Some((0, u32::MAX)))?)?;
-    }
-    if count > 1 {
-        lines.push(snap(alloc, b"", None)?)?;
-    }
-    Ok(List::from_vec(lines))
-}
-
 #[test]
 fn lists_snapshots(rt: HostRuntime) -> Result<(), Fail> {
     let alloc = rt.alloc();
     for count in 0..3 {
         assert!(rt;
-            is_text(alloc, &Reply::Snaps(snaps(alloc, count)?), SNAPS[count])?,
+            is_text(alloc, Reply::Snaps(snaps(alloc, count)?), SNAPS[count]),
             "at {count}"
         );
     }
@@ -189,40 +157,62 @@ const VALUES: [(&[u8], &[u8]); 3] = [
 ];
 
 #[test]
-fn answers_numbers(rt: HostRuntime) -> Result<(), Fail> {
-    let alloc = rt.alloc();
+fn answers_numbers(rt: HostRuntime) {
     for (sum, wanted) in TOTALS {
         assert!(rt;
-            is_text(alloc, &Reply::Total(sum), wanted)?,
+            is_text(rt.alloc(), Reply::Total(sum), wanted),
             "at {wanted:?}"
         );
     }
     for (number, wanted) in COUNTS {
         assert!(rt;
-            is_text(alloc, &Reply::Count(number), wanted)?,
+            is_text(rt.alloc(), Reply::Count(number), wanted),
             "at {wanted:?}"
         );
     }
-    assert!(rt; is_text(alloc, &Reply::Least(None), b"least -\n")?);
+    assert!(rt; is_text(rt.alloc(), Reply::Least(None), b"least -\n"));
+    assert!(rt; is_text(rt.alloc(), Reply::Quiet, b""));
+}
+
+#[test]
+fn answers_least_values(rt: HostRuntime) -> Result<(), Fail> {
     for (value, name, wanted) in LEAST {
-        let least = Reply::Least(Some((value, word(alloc, name)?)));
-        assert!(rt; is_text(alloc, &least, wanted)?, "at {wanted:?}");
+        let name = word(rt.alloc(), name)?;
+        assert!(rt;
+            is_text(rt.alloc(), Reply::Least(Some((value, name))), wanted),
+            "at {wanted:?}"
+        );
     }
     Ok(())
 }
 
 #[test]
 fn answers_values(rt: HostRuntime) -> Result<(), Fail> {
-    let alloc = rt.alloc();
-    assert!(rt; is_text(alloc, &Reply::Quiet, b"")?);
     for (value, wanted) in VALUES {
-        let reply = Reply::Value(word(alloc, value)?);
-        assert!(rt; is_text(alloc, &reply, wanted)?, "at {wanted:?}");
+        let value = word(rt.alloc(), value)?;
+        assert!(rt;
+            is_text(rt.alloc(), Reply::Value(value), wanted),
+            "at {wanted:?}"
+        );
     }
-    let bytes = Vec::from_slice(alloc, b"@nodes\nl\t\n")?;
-    let saved = Reply::Save(word(alloc, b"out.lgf")?, List::from_vec(bytes));
-    assert!(rt; is_text(alloc, &saved, b"saved 10\n")?);
-    let empty = Reply::Save(word(alloc, b"")?, List::from_vec(Vec::new(alloc)));
-    assert!(rt; is_text(alloc, &empty, b"saved 0\n")?);
+    Ok(())
+}
+
+// A file's name, its bytes, and the text.
+const SAVES: [(&[u8], &[u8], &[u8]); 2] = [
+    (b"out.lgf", b"@nodes\nl\t\n", b"saved 10\n"),
+    (b"", b"", b"saved 0\n"),
+];
+
+#[test]
+fn answers_saves(rt: HostRuntime) -> Result<(), Fail> {
+    for (name, bytes, wanted) in SAVES {
+        let name = word(rt.alloc(), name)?;
+        let file = List::from_vec(Vec::from_slice(rt.alloc(), bytes)?);
+        assert!(rt;
+            is_text(rt.alloc(), Reply::Save(name, file), wanted),
+            "at {wanted:?}"
+        );
+    }
     Ok(())
 }
