@@ -2,3 +2,4 @@ pub mod Told
 pub mod Back
 pub mod Guarding
 pub mod MoodySeats
+pub mod Halving

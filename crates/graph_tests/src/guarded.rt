@@ -24,8 +24,8 @@ pub struct Guarded {
     ghost fits: { Fits (guard_seen guard) (facts_of facts) },
 }
 
-// Whether the fact's id and ends are those of items.
-fn is_in_bounds(fact: &Fact) -> bool
+/// Whether the fact's id and ends are those of items.
+pub fn is_in_bounds(fact: &Fact) -> bool
     ensures { result ≡ true → IsInBounds fact.now }
 {
     fact.id < MAX_ARCS && fact.from < MAX_ARCS && fact.to < MAX_ARCS

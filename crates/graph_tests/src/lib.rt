@@ -10,10 +10,14 @@ mod digraph_tables;
 mod guarded;
 #[cfg(test)]
 mod guards;
+mod halved;
+#[cfg(test)]
+mod halves;
 mod listing;
 mod steps;
 mod undone;
 
 pub use guarded::Guarded;
+pub use halved::Halved;
 pub use listing::listed;
 pub use steps::{Step, take};
