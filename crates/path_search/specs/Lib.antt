@@ -1,0 +1,5 @@
+pub mod Queue
+pub mod Search
+pub mod Steps
+pub mod Answers
+pub mod Lengths
