@@ -4,7 +4,7 @@ ghost use Rattle.std.specs.Prelude.{◌≡◌, IfOk};
 ghost use Rattle.plain_machine.specs.Texts as texts;
 
 use itoa::Buffer;
-use lgf_file::{LgfFault, LgfKind};
+use lgf_file::LgfFault;
 use std::alloc::{AllocError, Global};
 
 /// The text `! graph LINE KIND` of the first fault of a graph file.
@@ -16,27 +16,7 @@ pub fn graph_fault_bytes(alloc: Global, fault: &LgfFault) -> Result<Vec<u8>, All
     text.extend_from_slice(b"! graph ")?;
     text.extend_from_slice(buffer.format(fault.line).as_bytes())?;
     text.push(b' ')?;
-    text.extend_from_slice(kind_name(fault.kind))?;
+    text.extend_from_slice(fault.kind.name())?;
     text.push(b'\n')?;
     Ok(text)
-}
-
-fn kind_name(kind: LgfKind) -> &'static [u8]
-    ensures { result.now ≡ texts.kind_name kind }
-{
-    match kind {
-        LgfKind::NoNodes => b"NoNodes",
-        LgfKind::NoArcs => b"NoArcs",
-        LgfKind::ArcsFirst => b"ArcsFirst",
-        LgfKind::Token => b"Token",
-        LgfKind::TooMany => b"TooMany",
-        LgfKind::DashColumn => b"DashColumn",
-        LgfKind::TwiceColumn => b"TwiceColumn",
-        LgfKind::NoLabel => b"NoLabel",
-        LgfKind::ShortRow => b"ShortRow",
-        LgfKind::LongRow => b"LongRow",
-        LgfKind::UnknownLabel => b"UnknownLabel",
-        LgfKind::TwiceLabel => b"TwiceLabel",
-        LgfKind::TwiceAttribute => b"TwiceAttribute",
-    }
 }

@@ -8,3 +8,4 @@ pub mod Results
 pub mod Found
 pub mod Reading
 pub mod Readers
+pub mod Kinds

@@ -100,7 +100,7 @@ fn ends_of(nodes: &LabelTable, cells: &[Text]) -> Option<(u32, u32)>
 }
 
 // Puts the label of an arc last among the labels, if arcs have labels: whether it stood there already.
-fn is_twice(
+fn insert_label(
     alloc: Global,
     head: &Head,
     labels: &mut LabelTable,
@@ -149,7 +149,7 @@ fn take_arc(
         return Ok(Some(LgfKind::UnknownLabel));
     };
     let values = values_of(cells);
-    if is_twice(alloc, head, labels, values.as_slice())? {
+    if insert_label(alloc, head, labels, values.as_slice())? {
         return Ok(Some(LgfKind::TwiceLabel));
     }
     let values = List::from_vec(values);

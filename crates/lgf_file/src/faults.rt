@@ -1,6 +1,7 @@
 //! Why bytes are no document.
 
 ghost use Rattle.std.specs.Prelude.{◌≡◌};
+ghost use Rattle.lgf_file.specs.Kinds.{kind_name};
 ghost use Rattle.lgf_file.specs.declared.faults.DocFault.TheVariants.{Memory as NoMemory};
 
 use std::alloc::{AllocError, AllocFailed};
@@ -35,6 +36,29 @@ pub enum LgfKind {
     TwiceLabel,
     /// The name of an attribute stood in an earlier row.
     TwiceAttribute,
+}
+
+impl LgfKind {
+    /// The name of the kind, as it is printed.
+    pub fn name(self) -> &'static [u8]
+        ensures { result.now ≡ kind_name self }
+    {
+        match self {
+            LgfKind::NoNodes => b"NoNodes",
+            LgfKind::NoArcs => b"NoArcs",
+            LgfKind::ArcsFirst => b"ArcsFirst",
+            LgfKind::Token => b"Token",
+            LgfKind::TooMany => b"TooMany",
+            LgfKind::DashColumn => b"DashColumn",
+            LgfKind::TwiceColumn => b"TwiceColumn",
+            LgfKind::NoLabel => b"NoLabel",
+            LgfKind::ShortRow => b"ShortRow",
+            LgfKind::LongRow => b"LongRow",
+            LgfKind::UnknownLabel => b"UnknownLabel",
+            LgfKind::TwiceLabel => b"TwiceLabel",
+            LgfKind::TwiceAttribute => b"TwiceAttribute",
+        }
+    }
 }
 
 /// What is wrong, and in which line. Lines are numbered from 1.

@@ -5,8 +5,7 @@ use Rattle.std.specs.Fmt.{decimal}
 use Rattle.edge_io.specs.Files.{Files}
 use Rattle.std.specs.FinMap as fin
 use Rattle.lgf_file.specs.declared.faults.LgfFault.{LgfFault}
-use Rattle.lgf_file.specs.declared.faults.LgfKind.{LgfKind}
-use Rattle.lgf_file.specs.declared.faults.LgfKind.TheVariants as kinds
+use Rattle.lgf_file.specs.Kinds.{kind_name}
 use Rattle.report_text.specs.Texts.{reply_text, fault_text}
 use Rattle.report_text.specs.declared.replies.Reply.TheVariants as replies
 use Rattle.plain_machine.specs.declared.answers.Answer.{Answer}
@@ -30,24 +29,10 @@ report_of answers = flat_map (λ a. answer_text a.0 a.1) answers
 abbrev pub has_refusal : List (ℕ × Answer) → Bool
 has_refusal answers = list_any (λ a. is_refused a.1) answers
 
-abbrev pub kind_name : LgfKind → List ℕ
-kind_name kinds.NoNodes = codes "NoNodes"
-kind_name kinds.NoArcs = codes "NoArcs"
-kind_name kinds.ArcsFirst = codes "ArcsFirst"
-kind_name kinds.Token = codes "Token"
-kind_name kinds.TooMany = codes "TooMany"
-kind_name kinds.DashColumn = codes "DashColumn"
-kind_name kinds.TwiceColumn = codes "TwiceColumn"
-kind_name kinds.NoLabel = codes "NoLabel"
-kind_name kinds.ShortRow = codes "ShortRow"
-kind_name kinds.LongRow = codes "LongRow"
-kind_name kinds.UnknownLabel = codes "UnknownLabel"
-kind_name kinds.TwiceLabel = codes "TwiceLabel"
-kind_name kinds.TwiceAttribute = codes "TwiceAttribute"
-
 -- ! graph LINE KIND
 abbrev pub graph_fault_text : LgfFault → List ℕ
-graph_fault_text fault = codes "! graph " ++ decimal fault.line ++ 32 ∷ kind_name fault.kind ++ 10 ∷ []
+graph_fault_text fault =
+    codes "! graph " ++ decimal fault.line ++ 32 ∷ kind_name fault.kind ++ 10 ∷ []
 
 -- ---- saves
 

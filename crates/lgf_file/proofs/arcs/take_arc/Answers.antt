@@ -21,7 +21,7 @@ returns-then-branch-clause-fault c =
     row.ensures.value c.in-Some-ends_of.ensures.found in
     let values = c.as_slice.ensures.value ∙ c.values_of-values.ensures in
     let twice =
-    ap (is_label_among head.columns labels) (sym values) ∙ sym c.in_ok-is_twice.ensures.twice
+    ap (is_label_among head.columns labels) (sym values) ∙ sym c.in_ok-insert_label.ensures.twice
     ∙ c.if-branch.true in
     sym (arc_fault_is nodes head c.args.arcs.now.items labels c.requires room c.args.cells.items
     wide _ _
@@ -45,7 +45,7 @@ module _ (c : goal.In_ok-push) where
       c.as_slice-row.ensures.value c.in-Some-ends_of.ensures.found
 
   apart : is_label_among c.args.head.now.columns c.args.labels.now c.as_slice.result.now ≡ false
-  apart = sym c.in_ok-is_twice.ensures.twice ∙ c.if-branch.false
+  apart = sym c.in_ok-insert_label.ensures.twice ∙ c.if-branch.false
 
 pub returns-clause-fault : goal.returns-clause-fault
 returns-clause-fault c =
@@ -62,11 +62,11 @@ returns-clause-sound c =
     let head = c.args.head.now in
     let labels = c.args.labels.now in
     let values = c.from_vec-values.ensures ∙ sym c.as_slice.ensures.value in
-    subst (λ own. HoldsArcs nodes head own c.is_twice.new.labels) (sym c.in_ok-push.ensures.items)
+    subst (λ own. HoldsArcs nodes head own c.insert_label.new.labels) (sym c.in_ok-push.ensures.items)
     (arc_behind nodes head c.args.arcs.now.items labels c.requires (room c) c.args.cells.items
     (wide c)
-    _ _ (ends c) c.from_vec-values.result c.is_twice.new.labels
+    _ _ (ends c) c.from_vec-values.result c.insert_label.new.labels
     (c.from_vec-values.ensures ∙ c.values_of-values.ensures)
     (ap (is_label_among head.columns labels) values ∙ apart c)
-    (OnFalse_at c.if-branch.false c.in_ok-is_twice.ensures.labels
+    (OnFalse_at c.if-branch.false c.in_ok-insert_label.ensures.labels
     ∙ ap (labels_with head.columns labels) (sym values)))

@@ -1,7 +1,7 @@
 use Rattle.std.proofs.Common.{◌≡◌, length, sym, ◌∙◌}
 use Rattle.lgf_file.specs.Documents.{label_in, label_place}
 use Rattle.lgf_file.proofs.ArcLabels.{no_label_among, no_label_with, label_among, label_with}
-use Rattle.lgf_file.proofs.arcs.is_twice.Goals as goal
+use Rattle.lgf_file.proofs.arcs.insert_label.Goals as goal
 
 pub returns-then-head-len-clause-twice : goal.returns-then-head-len-clause-twice
 returns-then-head-len-clause-twice c =
