@@ -1,13 +1,12 @@
 -- The column of the labels of arcs, and the label of an arc behind those of others.
-use Rattle.std.proofs.Common.{◌≡◌, ℕ, ◌<◌, Bool, true, false, List, [], ◌∷◌, ◌++◌, None, Some, length, refl, sym, ap, ◌∙◌, subst, arith, map}
+use Rattle.std.proofs.Common.{◌≡◌, ℕ, Bool, true, false, List, [], ◌∷◌, ◌++◌, None, Some, Option, refl, sym, ap, ◌∙◌, subst, map}
 use Rattle.std.specs.Bool.{OnFalse}
 use Rattle.std.specs.Prelude.{◌&&◌, not, if◌then◌else◌}
 use Rattle.std.specs.Str.{bytes_eq}
-use Rattle.std.specs.List.{position_or_len}
 use Rattle.std.proofs.lemmas.Bool.{false_from_ne_true, and_left, not-false, OnFalse_from}
 use Rattle.std.proofs.lemmas.List.{map_push}
 use Rattle.std.proofs.lemmas.List.Folds.{list_any_at}
-use Rattle.std.proofs.lemmas.List.Sums.{passes_at_first}
+use Rattle.std.proofs.lemmas.List.Quantifiers.{position-Some}
 use Rattle.token_text.specs.Names.{is_among, has_twice}
 use Rattle.lgf_file.specs.Rows.{Cells}
 use Rattle.lgf_file.specs.Documents.{label, label_place, label_in, labels_of, arc_labels, link_cells}
@@ -16,26 +15,27 @@ use Rattle.lgf_file.specs.Readers.{is_label_among, labels_seen, labels_with}
 use Rattle.lgf_file.specs.declared.documents.Link.{Link}
 use Rattle.lgf_file.specs.declared.faults.LgfKind.TheVariants.{TwiceLabel}
 use Rattle.lgf_file.proofs.NameLists.{twice_push}
-use Rattle.lgf_file.proofs.NodeLabels.{place_within}
+use Rattle.lgf_file.proofs.NodeLabels.{place_there}
 use Rattle.lgf_file.proofs.ArcsFine.{values_behind}
 
--- Where the place of the labels is that of no column, no column is named label.
-pub none_labelled : (columns : Cells) → label_place columns ≡ length columns
-    → is_among label columns ≡ false
-none_labelled columns past = false_from_ne_true (is_among label columns)
-    (λ among. let within = place_within columns among in absurd (omega arith))
+-- Where no column has the labels, none is named label.
+pub none_labelled : (columns : Cells) → label_place columns ≡ None → is_among label columns ≡ false
+none_labelled columns none = false_from_ne_true (is_among label columns)
+    (λ among. absurd (cc (sym (place_there columns among) ∙ none)))
 
--- Where it is that of a column, one is.
-pub one_labelled : (columns : Cells) → (label_place columns ≡ length columns → ⊥)
+-- Where one has, one is.
+pub one_labelled : (columns : Cells) → (label_place columns ≡ None → ⊥)
     → is_among label columns ≡ true
-one_labelled columns apart =
-    let test = bytes_eq label in
-    let first : position_or_len test columns < length columns = grind arith in
-    list_any_at test columns (position_or_len test columns) [] first
-    (passes_at_first test columns [] first)
+one_labelled columns some = by_place (label_place columns) refl
+  where
+    by_place : (found : Option ℕ) → label_place columns ≡ found → is_among label columns ≡ true
+    by_place None is = absurd (some is)
+    by_place (Some place) is =
+        let first = position-Some (bytes_eq label) columns place [] is in
+        list_any_at (bytes_eq label) columns place [] first.0 first.1
 
 -- Of an arc without a label none stood before, and nothing comes to the labels.
-module _ (columns labels values : Cells) (none : label_place columns ≡ length columns) where
+module _ (columns labels values : Cells) (none : label_place columns ≡ None) where
   pub no_label_among : false ≡ is_label_among columns labels values
   no_label_among =
       sym (and_left (is_among label columns) (is_among (label_in columns values) labels)
@@ -48,7 +48,7 @@ module _ (columns labels values : Cells) (none : label_place columns ≡ length 
 
 -- The label of an arc is looked up among the labels, and comes to them where it is fresh.
 module _ (columns labels values : Cells) (name : List ℕ) (fresh : Bool)
-    (some : label_place columns ≡ length columns → ⊥) (is : name ≡ label_in columns values) where
+    (some : label_place columns ≡ None → ⊥) (is : name ≡ label_in columns values) where
   pub label_among : fresh ≡ not (is_among name labels)
       → not fresh ≡ is_label_among columns labels values
   label_among fresh_is =

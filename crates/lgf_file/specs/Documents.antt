@@ -1,5 +1,5 @@
 -- Valid documents, and the bytes that spell them.
-use Rattle.std.specs.Prelude.{◌≡◌, ℕ, ◌<◌, ◌≤◌, true, false, List, [], ◌∷◌, length, All, codes, slice_index_or, map, Some, position, unwrap_or}
+use Rattle.std.specs.Prelude.{◌≡◌, ℕ, ◌<◌, ◌≤◌, true, false, List, [], ◌∷◌, length, All, codes, slice_index_or, map, Some, None, Option, position}
 use Rattle.std.specs.Str.{bytes_eq}
 use Rattle.base_items.specs.declared.limits.TheConstants.{MAX_NODES, MAX_ARCS}
 use Rattle.token_text.specs.Lines.{lines_of}
@@ -19,13 +19,18 @@ label = codes "label"
 abbrev pub dash : List ℕ
 dash = codes "-"
 
--- The place of the column of labels, or the number of columns where there is none.
-abbrev pub label_place : Cells → ℕ
-label_place columns = unwrap_or (position (bytes_eq label) columns) (length columns)
+-- The place of the column of labels, if there is one.
+abbrev pub label_place : Cells → Option ℕ
+label_place columns = position (bytes_eq label) columns
+
+-- The token of a row at a place, if there is one.
+abbrev pub cell_at : Option ℕ → Cells → List ℕ
+cell_at None cells = []
+cell_at (Some place) cells = slice_index_or cells place []
 
 -- The label of a row.
 abbrev pub label_in : Cells → Cells → List ℕ
-label_in columns cells = slice_index_or cells (label_place columns) []
+label_in columns cells = cell_at (label_place columns) cells
 
 -- The labels of rows.
 abbrev pub labels_of : Cells → List Cells → Cells

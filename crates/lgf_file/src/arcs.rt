@@ -44,15 +44,19 @@ impl<'a> ArcReader<'a> {
 
     // Takes in the names of the columns.
     fn take_head(&mut self, alloc: Global, cells: Vec<Text>) -> Result<Option<LgfKind>, AllocError>
-        requires sound { ArcsSound self.old.nodes.now self.old.head self.old.arcs.items self.old.labels }
+        requires sound { ArcsSound self.old.nodes.now self.old.head self.old.arcs.items
+            self.old.labels }
         requires first { self.old.head ≡ None }
         requires some { 0 < length cells.items }
-        ensures nodes { IfOk result (λ found. IfNone found (self.new.nodes.now ≡ self.old.nodes.now)) }
+        ensures nodes { IfOk result (λ found. IfNone found
+            (self.new.nodes.now ≡ self.old.nodes.now)) }
         ensures fault { IfOk result (λ found. found ≡ faults.arc_head_fault cells.items) }
         ensures taken { IfOk result (λ found.
-            IfNone found (arcs_read self.new.nodes.now self.new.head self.new.arcs.items ≡ cells.items ∷ [])) }
+            IfNone found (arcs_read self.new.nodes.now self.new.head
+            self.new.arcs.items ≡ cells.items ∷ [])) }
         ensures sound { IfOk result (λ found.
-            IfNone found (ArcsSound self.new.nodes.now self.new.head self.new.arcs.items self.new.labels)) }
+            IfNone found (ArcsSound self.new.nodes.now self.new.head self.new.arcs.items
+            self.new.labels)) }
     {
         if cells.len() == 1 && has_dash(cells.as_slice()) {
             self.head = Some(Head::new(Vec::new(alloc)));
@@ -99,7 +103,8 @@ fn ends_of(nodes: &LabelTable, cells: &[Text]) -> Option<(u32, u32)>
     Some((from as u32, to as u32))
 }
 
-// Puts the label of an arc last among the labels, if arcs have labels: whether it stood there already.
+// Puts the label of an arc last among the labels, if arcs have labels: whether it stood there
+// already.
 fn insert_label(
     alloc: Global,
     head: &Head,
@@ -108,11 +113,12 @@ fn insert_label(
 ) -> Result<bool, AllocError>
     requires head { IsHead head.now }
     requires wide { length values.now ≡ length head.now.columns }
-    ensures twice { IfOk result (λ twice. twice ≡ is_label_among head.now.columns labels.old values.now) }
+    ensures twice { IfOk result (λ twice. twice ≡ is_label_among head.now.columns labels.old
+        values.now) }
     ensures labels { IfOk result (λ twice.
         OnFalse twice (labels.new ≡ labels_with head.now.columns labels.old values.now)) }
 {
-    if head.label_place == head.columns.len() {
+    if head.label_place.is_none() {
         return Ok(false);
     }
     let label = head.copy_label(alloc, values)?;
@@ -135,7 +141,8 @@ fn take_arc(
     ensures taken { IfOk result (λ found. IfNone found
         (arcs_read nodes.now (Some head.now) arcs.new.items
         ≡ arcs_read nodes.now (Some head.now) arcs.old.items ++ cells.items ∷ [])) }
-    ensures sound { IfOk result (λ found. IfNone found (HoldsArcs nodes.now head.now arcs.new.items labels.new)) }
+    ensures sound { IfOk result (λ found. IfNone found
+        (HoldsArcs nodes.now head.now arcs.new.items labels.new)) }
 {
     if arcs.len() == MAX_ARCS as usize {
         return Ok(Some(LgfKind::TooMany));

@@ -1,7 +1,6 @@
 //! The first lines of nodes and of arcs, which name their columns, and the number of tokens of a row.
 
-ghost use Rattle.std.specs.Prelude.{◌≡◌, ◌<◌, length, position, IfOk};
-ghost use Rattle.std.specs.Str.{bytes_eq};
+ghost use Rattle.std.specs.Prelude.{◌≡◌, ◌<◌, length, IfOk, IfSome};
 ghost use Rattle.token_text.specs.Names as names;
 ghost use Rattle.lgf_file.specs.Documents as documents;
 ghost use Rattle.lgf_file.specs.Faults as faults;
@@ -12,11 +11,11 @@ use base_items::List;
 use std::alloc::{AllocError, Global};
 use token_text::{LabelTable, Text, copy_text};
 
-/// The names of columns, and the place of that of the labels, or their number where there is none.
+/// The names of columns, and the place of that of the labels, if there is one.
 #[derive(Drop)]
 pub struct Head {
     pub columns: List<Text>,
-    pub label_place: usize,
+    pub label_place: Option<usize>,
 }
 
 impl Head {
@@ -25,40 +24,33 @@ impl Head {
         ensures columns { result.columns ≡ columns.items }
         ensures place { IsHead result }
     {
-        let label_place = label_place(columns.as_slice());
+        let label_place = find_label(columns.as_slice());
         Head {
             columns: List::from_vec(columns),
             label_place,
         }
     }
 
-    /// The label of a row with these tokens.
+    /// The label of a row with these tokens. It is empty where no column has the labels.
     pub fn copy_label(&self, alloc: Global, cells: &[Text]) -> Result<Text, AllocError>
         requires head { IsHead self.now }
-        requires within { self.now.label_place < length cells.now }
+        requires within { IfSome self.now.label_place (λ place. place < length cells.now) }
         ensures { IfOk result (λ label. label ≡ documents.label_in self.now.columns cells.now) }
     {
-        copy_text(alloc, cells[self.label_place].as_bytes())
+        match self.label_place {
+            Some(place) => copy_text(alloc, cells[place].as_bytes()),
+            None => Ok(Text::new(alloc)),
+        }
     }
 }
 
 /// The place of the column `label`. None where there is none.
 pub fn find_label(columns: &[Text]) -> Option<usize>
-    ensures { result ≡ position (bytes_eq documents.label) columns.now }
+    ensures { result ≡ documents.label_place columns.now }
 {
     columns
         .iter()
         .position(|column| b"label".as_slice() == column.as_bytes())
-}
-
-/// The place of the column of labels, or the number of columns where there is none.
-pub fn label_place(columns: &[Text]) -> usize
-    ensures { result ≡ documents.label_place columns.now }
-{
-    match find_label(columns) {
-        Some(place) => place,
-        None => columns.len(),
-    }
 }
 
 /// Whether one of the columns has the labels.

@@ -7,7 +7,7 @@ ghost use Rattle.lgf_file.specs.Documents as documents;
 ghost use Rattle.lgf_file.specs.Plain as plain;
 
 use crate::documents::{Doc, Link, Table};
-use crate::heads::label_place;
+use crate::heads::find_label;
 use base_items::List;
 use std::alloc::{AllocError, Global};
 use token_text::{Text, push_token};
@@ -73,17 +73,25 @@ fn push_head(out: &mut Vec<u8>, columns: &[Text]) -> Result<(), AllocError>
 }
 
 // The label of a node, by its row.
-fn label_at(nodes: &Table, place: usize, row: u32) -> &[u8]
+fn label_at(nodes: &Table, place: Option<usize>, row: u32) -> &[u8]
     requires valid { documents.IsTable nodes.now }
     requires at_labels { place ≡ documents.label_place nodes.now.columns }
     requires within { row < length nodes.now.rows }
     ensures { result.now ≡ documents.label_at (documents.node_labels nodes.now) row }
 {
-    nodes.rows.as_slice()[row as usize].as_slice()[place].as_bytes()
+    match place {
+        Some(place) => nodes.rows.as_slice()[row as usize].as_slice()[place].as_bytes(),
+        None => &[],
+    }
 }
 
 // Appends the line of an arc.
-fn push_arc(out: &mut Vec<u8>, nodes: &Table, place: usize, arc: &Link) -> Result<(), AllocError>
+fn push_arc(
+    out: &mut Vec<u8>,
+    nodes: &Table,
+    place: Option<usize>,
+    arc: &Link,
+) -> Result<(), AllocError>
     requires valid { documents.IsTable nodes.now }
     requires at_labels { place ≡ documents.label_place nodes.now.columns }
     requires from_within { arc.now.from < length nodes.now.rows }
@@ -105,7 +113,7 @@ fn push_arcs(out: &mut Vec<u8>, doc: &Doc) -> Result<(), AllocError>
 {
     out.extend_from_slice(b"@arcs\n")?;
     push_head(out, doc.arc_columns.as_slice())?;
-    let place = label_place(doc.nodes.columns.as_slice());
+    let place = find_label(doc.nodes.columns.as_slice());
     for arc in doc.arcs.as_slice() {
         push_arc(out, &doc.nodes, place, arc)?;
     }
@@ -114,7 +122,8 @@ fn push_arcs(out: &mut Vec<u8>, doc: &Doc) -> Result<(), AllocError>
 
 // Appends the line of an attribute.
 fn push_attribute(out: &mut Vec<u8>, attribute: &(Text, Text)) -> Result<(), AllocError>
-    ensures { OnOk result (out.new.items ≡ out.old.items ++ ended (plain.attribute_text attribute.now)) }
+    ensures { OnOk result (out.new.items ≡ out.old.items ++ ended
+        (plain.attribute_text attribute.now)) }
 {
     push_token(out, attribute.0.as_bytes())?;
     out.push(b' ')?;

@@ -1,10 +1,10 @@
-use Rattle.std.proofs.Common.{◌≡◌, ◌∷◌, ◌++◌, [], false, length, sym, ap, ◌∙◌, subst, arith}
+use Rattle.std.proofs.Common.{◌≡◌, ◌∷◌, ◌++◌, [], false, length, sym, ap, ◌∙◌, subst}
 use Rattle.std.specs.Prelude.{if◌then◌else◌}
 use Rattle.std.proofs.lemmas.Bool.{not-true}
 use Rattle.base_items.specs.declared.limits.TheConstants.{MAX_NODES}
 use Rattle.token_text.specs.Names.{is_among}
 use Rattle.lgf_file.specs.Documents.{label_in}
-use Rattle.lgf_file.proofs.NodeLabels.{place_within}
+use Rattle.lgf_file.proofs.NodeLabels.{place_in_cells}
 use Rattle.lgf_file.proofs.NodeRows.{node_right, node_push}
 use Rattle.lgf_file.proofs.NoFaults.{width_is}
 use Rattle.lgf_file.proofs.nodes.take_node.Goals as goal
@@ -12,14 +12,9 @@ use Rattle.lgf_file.proofs.nodes.take_node.Goals as goal
 pub copy_label-requires-clause-within : goal.copy_label-requires-clause-within
 copy_label-requires-clause-within c =
     let head = c.args.head.now in
-    let wide = width_is c.len-2.result c.as_slice-row.result.now (sym c.width_fault.ensures
-    ∙ c.in_default.is) in
-    omega (
-      arith,
-      place_within head.columns c.requires.table.labelled,
-      c.requires.head_ok,
-      c.len-2.ensures,
-    )
+    let row = c.as_slice-row.result.now in
+    let wide = width_is c.len-2.result row (sym c.width_fault.ensures ∙ c.in_default.is) in
+    place_in_cells head.columns row head.label_place c.requires.head_ok (wide ∙ c.len-2.ensures)
 
 -- ---- where the node's label isn't among the others
 
