@@ -1,6 +1,6 @@
 -- The names of columns, with that of the labels in front.
-use Rattle.std.proofs.Common.{◌≡◌, ℕ, suc, false, List, [], ◌∷◌, ◌++◌, length, take, drop, drop-cons, Option, Some, None, refl, sym, ap, ◌∙◌}
-use Rattle.std.specs.Prelude.{slice_index_or, unwrap_or}
+use Rattle.std.proofs.Common.{◌≡◌, ℕ, suc, false, List, [], ◌∷◌, ◌++◌, take, drop, drop-cons, Option, Some, None, refl, sym, ap, ◌∙◌}
+use Rattle.std.specs.Prelude.{slice_index_or}
 use Rattle.std.specs.Str.{bytes_eq}
 use Rattle.std.proofs.lemmas.Bool.{or_parts, or_from}
 use Rattle.std.proofs.lemmas.List.{take-append-drop}
@@ -46,7 +46,7 @@ other_names front middle back differ =
 module _ (columns : Cells) (are : AreColumns columns) where
   pub label_in_front : (place : Option ℕ) → label_column columns ≡ place → AreColumns (label ∷ item_texts place columns)
   label_in_front None is = record {
-    differ = or_from (is_among label columns) (has_twice columns) (none_labelled columns (ap (λ found. unwrap_or found (length columns)) is)) are.differ;
+    differ = or_from (is_among label columns) (has_twice columns) (none_labelled columns is) are.differ;
     no_dash = or_from (bytes_eq dash label) (is_among dash columns) refl are.no_dash;
   }
   label_in_front (Some place) is =

@@ -1,6 +1,6 @@
 -- The labels that rows get, and that these differ.
 use Rattle.std.proofs.Common.{◌≡◌, ℕ, suc, ◌+◌, ◌<◌, true, false, List, [], ◌∷◌, length, Option, Some, None, refl, sym, ap, ◌∙◌, arith}
-use Rattle.std.specs.Prelude.{◌^◌, unwrap_or, slice_index_or}
+use Rattle.std.specs.Prelude.{◌^◌}
 use Rattle.std.specs.Str.{bytes_eq}
 use Rattle.std.specs.Fmt.{decimal}
 use Rattle.std.proofs.lemmas.Fmt.{decimal_injective}
@@ -10,7 +10,7 @@ use Rattle.std.proofs.lemmas.List.Quantifiers.{position-Some}
 use Rattle.std.proofs.lemmas.Slice.Eq.{bytes_eq-Decides}
 use Rattle.token_text.specs.Names.{is_among, has_twice}
 use Rattle.lgf_file.specs.Rows.{Cells}
-use Rattle.lgf_file.specs.Documents.{label, label_place, labels_of}
+use Rattle.lgf_file.specs.Documents.{label, label_place, cell_at, labels_of}
 use Rattle.plain_machine.specs.World.{label_column, item_label}
 
 -- The labels of rows, of which the first is that of the item with this id.
@@ -38,10 +38,11 @@ decimals_differ id (cells ∷ rows) small =
     (decimals_differ (suc id) rows (omega (arith, small)))
 
 -- Labels in a column are those of its rows.
-column_labels : (columns : Cells) (place id : ℕ) (rows : List Cells) → place ≡ label_place columns
+column_labels : (columns : Cells) (place id : ℕ) (rows : List Cells) → Some place ≡ label_place columns
     → row_labels (Some place) id rows ≡ labels_of columns rows
 column_labels columns place id [] is = refl
-column_labels columns place id (cells ∷ rows) is = λ i. slice_index_or cells (is i) [] ∷ column_labels columns place (suc id) rows is i
+column_labels columns place id (cells ∷ rows) is =
+    λ i. cell_at (is i) cells ∷ column_labels columns place (suc id) rows is i
 
 -- Where there is a column of labels, it is one of the columns.
 column_among : (columns : Cells) (place : ℕ) → label_column columns ≡ Some place → is_among label columns ≡ true
@@ -55,5 +56,4 @@ pub labels_apart : (columns : Cells) (rows : List Cells) (place : Option ℕ) �
     → has_twice (row_labels place 0 rows) ≡ false
 labels_apart columns rows None is differ small = decimals_differ 0 rows (omega (arith, small))
 labels_apart columns rows (Some place) is differ small =
-    let own : place ≡ label_place columns = sym (ap (λ found. unwrap_or found (length columns)) is) in
-    ap has_twice (column_labels columns place 0 rows own) ∙ differ (column_among columns place is)
+    ap has_twice (column_labels columns place 0 rows (sym is)) ∙ differ (column_among columns place is)

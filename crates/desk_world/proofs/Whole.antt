@@ -11,7 +11,7 @@ use Rattle.std.proofs.lemmas.List.FromFn.{get_or-map-range_with_len, length-map-
 use Rattle.base_items.specs.declared.items.ItemSort.TheVariants as sorts
 use Rattle.token_text.specs.Names.{has_twice}
 use Rattle.lgf_file.specs.Rows.{Cells}
-use Rattle.lgf_file.specs.Documents.{IsDoc, IsLink, label, label_place, label_in, label_at, labels_of, node_labels, arc_labels}
+use Rattle.lgf_file.specs.Documents.{IsDoc, IsLink, label, label_place, cell_at, label_in, label_at, labels_of, node_labels, arc_labels}
 use Rattle.lgf_file.specs.declared.documents.Doc.{Doc}
 use Rattle.lgf_file.specs.declared.documents.Link.{Link}
 use Rattle.lgf_file.proofs.NameLists.{name_itself}
@@ -48,10 +48,11 @@ front_label : (columns cells : Cells) (name : List ℕ) → label_in (label ∷ 
 front_label columns cells name =
     let size = suc (length columns) in
     let others = prefix_len (λ own. not (bytes_eq label own)) columns in
-    let place : label_place (label ∷ columns) ≡ 0 =
-    ap (λ same. unwrap_or (cond (nat_lt (cond (not same) (1 + others) 0) size) (Some (cond (not same) (1 + others) 0)) None) size) (name_itself label)
-    ∙ ap (λ test. unwrap_or (cond test (Some 0) None) size) (lt-ltb 0 size (omega arith)) in
-    ap (λ own. slice_index_or (name ∷ cells) own []) place
+    let place : label_place (label ∷ columns) ≡ Some 0 =
+    ap (λ same. cond (nat_lt (cond (not same) (1 + others) 0) size)
+    (Some (cond (not same) (1 + others) 0)) None) (name_itself label)
+    ∙ ap (λ test. cond test (Some 0) None) (lt-ltb 0 size (omega arith)) in
+    ap (λ own. cell_at own (name ∷ cells)) place
 
 -- The labels of rows with these at their places.
 module _ (rows : ItemRows) (count : ℕ) (are : AreRows rows count) where
