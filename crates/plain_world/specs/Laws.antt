@@ -1,12 +1,18 @@
 -- Laws that each command's proof starts from.
-use Rattle.std.specs.Prelude.{◌≡◌, ℕ, List, fold, None, Some}
+use Rattle.std.specs.Prelude.{◌≡◌, ℕ, Bool, true, false, List, fold, None, Some}
 use Rattle.std.specs.FinMap as fin
 use Rattle.base_items.specs.declared.items.ItemSort.{ItemSort}
+use Rattle.script_words.specs.declared.commands.Command.{Command}
+use Rattle.script_words.specs.declared.commands.Command.TheVariants as commands
+use Rattle.report_text.specs.declared.faults.Fault.{Fault}
 use Rattle.plain_digraph.specs.PlainSteps.{PlainStep, after_steps}
+use Rattle.plain_world.specs.declared.answers.Answer.{Answer}
+use Rattle.plain_world.specs.declared.answers.Answer.TheVariants.{Refused}
 use Rattle.plain_world.specs.Tables.{Name}
 use Rattle.plain_world.specs.World.{World, attached}
 use Rattle.plain_world.specs.Following.{follow}
 use Rattle.plain_world.specs.Demands.{item_named}
+use Rattle.plain_world.specs.Steps.{Step}
 use Rattle.plain_world.specs.Valid.{IsWorld}
 
 -- the item that has a label is the one that is found by it
@@ -25,3 +31,31 @@ UnusedNamesAreFree = (world : World) (sort : ItemSort) (name : Name)
 abbrev pub AlteredGraphsFollow : Type 0
 AlteredGraphsFollow = (steps : List PlainStep) (world : World)
     → (fold follow world steps).graph ≡ after_steps world.graph steps
+
+-- ---- one answer
+
+-- whether the command is a query that may find one answer or another
+abbrev pub chooses : Command → Bool
+chooses (commands.Dijkstra view length start) = true
+chooses (commands.Bellman view length start) = true
+chooses (commands.MaxFlow view cap s t into) = true
+chooses (commands.Circulate view low up supply into) = true
+chooses (commands.MinCost view low up cost supply into) = true
+chooses (commands.Simplex view low up cost supply into) = true
+chooses (commands.Match view left) = true
+chooses (commands.Heaviest view left weight) = true
+chooses (commands.Assign view left cost) = true
+chooses (commands.MeanCycle view length time) = true
+chooses _ = false
+
+-- a command that leaves no choice has one answer, and leaves one world
+abbrev pub AnswersAreOne : Type 0
+AnswersAreOne = (world later after : World) (command : Command) (answer other : Answer)
+    → chooses command ≡ false → Step world command answer later → Step world command other after
+    → (answer ≡ other) × (later ≡ after)
+
+-- a command that is refused has this answer alone, and changes nothing
+abbrev pub RefusalsAreOne : Type 0
+RefusalsAreOne = (world later after : World) (command : Command) (fault : Fault) (answer : Answer)
+    → Step world command (Refused fault) later → Step world command answer after
+    → (answer ≡ Refused fault) × (after ≡ world)

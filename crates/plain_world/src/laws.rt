@@ -28,3 +28,13 @@ pub fn unused_names_are_free()
 pub fn altered_graphs_follow()
     ensures { laws.AlteredGraphsFollow }
 {}
+
+/// A command that leaves no choice has one answer, and leaves one world.
+pub fn answers_are_one()
+    ensures { laws.AnswersAreOne }
+{}
+
+/// A command that is refused has this answer alone, and changes nothing.
+pub fn refusals_are_one()
+    ensures { laws.RefusalsAreOne }
+{}
