@@ -19,7 +19,7 @@ use Rattle.plain_world.specs.Valid.{IsWorld, IsAttached}
 use Rattle.plain_world.specs.Laws.{ItemsAreNamed, UnusedNamesAreFree}
 use Rattle.plain_world.proofs.Found.{find_only, find_none}
 
-attached_ok : (world : World) (sort : ItemSort) → IsWorld world → IsAttached world sort
+pub attached_ok : (world : World) (sort : ItemSort) → IsWorld world → IsAttached world sort
 attached_ok world Node ok = ok.nodes_ok
 attached_ok world Arc ok = ok.arcs_ok
 

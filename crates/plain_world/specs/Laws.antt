@@ -5,6 +5,7 @@ use Rattle.base_items.specs.declared.items.ItemSort.{ItemSort}
 use Rattle.script_words.specs.declared.commands.Command.{Command}
 use Rattle.script_words.specs.declared.commands.Command.TheVariants as commands
 use Rattle.report_text.specs.declared.faults.Fault.{Fault}
+use Rattle.lgf_file.specs.Documents.{IsDoc}
 use Rattle.plain_digraph.specs.PlainSteps.{PlainStep, after_steps}
 use Rattle.plain_world.specs.declared.answers.Answer.{Answer}
 use Rattle.plain_world.specs.declared.answers.Answer.TheVariants.{Refused}
@@ -12,6 +13,7 @@ use Rattle.plain_world.specs.Tables.{Name}
 use Rattle.plain_world.specs.World.{World, attached}
 use Rattle.plain_world.specs.Following.{follow}
 use Rattle.plain_world.specs.Demands.{item_named}
+use Rattle.plain_world.specs.Documents.{doc_of}
 use Rattle.plain_world.specs.Steps.{Step}
 use Rattle.plain_world.specs.Valid.{IsWorld}
 
@@ -31,6 +33,12 @@ UnusedNamesAreFree = (world : World) (sort : ItemSort) (name : Name)
 abbrev pub AlteredGraphsFollow : Type 0
 AlteredGraphsFollow = (steps : List PlainStep) (world : World)
     → (fold follow world steps).graph ≡ after_steps world.graph steps
+
+-- ---- documents
+
+-- the document of a valid world is valid
+abbrev pub DocumentsAreValid : Type 0
+DocumentsAreValid = (world : World) → IsWorld world → IsDoc (doc_of world)
 
 -- ---- one answer
 

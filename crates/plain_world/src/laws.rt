@@ -38,3 +38,8 @@ pub fn answers_are_one()
 pub fn refusals_are_one()
     ensures { laws.RefusalsAreOne }
 {}
+
+/// The document of a valid world is a valid document.
+pub fn documents_are_valid()
+    ensures { laws.DocumentsAreValid }
+{}
