@@ -1,0 +1,14 @@
+//! Tests of the layers that show a digraph, so that their own crates are proved once.
+#![tactic(auto)]
+
+mod columns;
+#[cfg(test)]
+mod layers;
+mod listing;
+#[cfg(test)]
+mod pairs;
+mod rows;
+
+pub use columns::{Columns, have_maps};
+pub use listing::{listed, pulled};
+pub use rows::{RESIDUAL, Row, SUB, try_rows};
