@@ -1,6 +1,7 @@
 -- What contracts see of a map that tracks nothing of its own.
 use Rattle.std.specs.Prelude.{◌≤◌}
 use Rattle.std.proofs.Common.{arith}
+use Rattle.alter_graph.specs.State.{AlterOf, IsInStep, state_of}
 use Rattle.observe_core.specs.Held.{Nothing}
 use Rattle.observe_core.specs.Seen.{Watched, map_seen, need}
 use Rattle.observe_core.proofs.SoundLemmas.{map_sound}
@@ -16,3 +17,7 @@ moody_watched = record {
   sound = map_sound Nothing tt;
   reaches = needs-nothing;
 }
+
+-- an alterable digraph whose observers are all such maps is in step with them
+abbrev pub IsMoodyInStep : {O : Type 0} → AlterOf O → Type 0
+IsMoodyInStep a = IsInStep (state_of (λ _. moody_watched) a)

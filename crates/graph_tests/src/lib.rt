@@ -2,6 +2,8 @@
 #![tactic(auto)]
 
 #[cfg(test)]
+mod alterations;
+#[cfg(test)]
 mod chains;
 #[cfg(test)]
 mod digraph_limits;
@@ -14,6 +16,8 @@ mod halved;
 #[cfg(test)]
 mod halves;
 mod listing;
+#[cfg(test)]
+mod moody;
 mod steps;
 mod undone;
 
