@@ -3,3 +3,4 @@ pub mod Back
 pub mod Guarding
 pub mod MoodySeats
 pub mod Halving
+pub mod Following

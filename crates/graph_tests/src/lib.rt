@@ -9,19 +9,29 @@ mod chains;
 mod digraph_limits;
 #[cfg(test)]
 mod digraph_tables;
+mod followed;
 mod guarded;
 #[cfg(test)]
 mod guards;
 mod halved;
 #[cfg(test)]
 mod halves;
+mod kept_up;
+#[cfg(test)]
+mod kernels;
 mod listing;
+#[cfg(test)]
+mod maps;
+mod modest;
 #[cfg(test)]
 mod moody;
 mod steps;
 mod undone;
 
+pub use followed::{add, clear, erase, shift};
 pub use guarded::Guarded;
 pub use halved::Halved;
+pub use kept_up::{name_item, set_bool, set_int, set_text, tie_item, write_true};
 pub use listing::listed;
+pub use modest::all_modest;
 pub use steps::{Step, take};

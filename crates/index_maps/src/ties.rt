@@ -138,13 +138,10 @@ impl Observer for Ties {
 
     fn build(&mut self, all: &[Fact]) -> Result<(), Veto> {
         let _ = all;
-        self.column.clear();
         Ok(())
     }
 
-    fn undo_build(&mut self) {
-        self.column.clear();
-    }
+    fn undo_build(&mut self) {}
 
     fn erase(&mut self, f: Fact) -> After {
         self.end_all(f.id);

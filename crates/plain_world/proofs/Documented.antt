@@ -192,8 +192,7 @@ row_within world node ok live =
 link_ok : (world : World) (arc : ℕ) → IsWorld world → IsLive world.graph Arc arc
     → IsLink (node_labels (doc_of world).nodes) (columns_of world.arcs) (link_of world arc)
 link_ok world arc ok live =
-    let ends = live_ends world.graph arc ok.graph_ok live in
-    (
+    let ends = live_ends world.graph arc ok.graph_ok live in (
       row_within world (source_of world.graph arc) ok ends.0,
       row_within world (target_of world.graph arc) ok ends.1,
       wide world Arc arc,

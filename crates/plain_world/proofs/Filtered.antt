@@ -75,7 +75,7 @@ module _ (test : ℕ → Bool) where
             (sym (ap test same ∙ passes)) (first same rest)
         | inr other ↦
             let more = range_listed (a + 1) n id (omega (arith, low, other)) (omega (arith, high))
-                passes in
+            passes in
             elim (test a) as (λ b. has (cond b (a ∷ rest) rest) id ≡ true) [
               | true ↦ or_right (a == id) (has rest id) more
               | false ↦ more

@@ -1,0 +1,18 @@
+use Rattle.observe_core.specs.Held.{Bools}
+use Rattle.columns.specs.Views.{entry}
+use Rattle.fact_table.specs.Table.{facts_of}
+use Rattle.value_maps.specs.Views.{bools_of}
+use Rattle.graph_tests.proofs.Following.{has_entry, fits_written}
+use Rattle.graph_tests.proofs.kept_up.set_bool.Goals as goal
+
+pub set-requires : goal.set-requires
+set-requires c =
+    has_entry c.args.id (bools_of c.args.map.now) (facts_of c.args.facts.now) c.in-Some.fact
+    c.requires.held
+    c.in-Some.ensures.there
+
+pub returns : goal.returns
+returns c =
+    fits_written Bools (entry c.args.id c.args.value) (bools_of c.args.map.now)
+    (facts_of c.args.facts.now)
+    _ c.set.ensures c.requires
