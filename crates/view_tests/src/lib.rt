@@ -7,8 +7,8 @@ mod layers;
 mod listing;
 #[cfg(test)]
 mod pairs;
+#[cfg(test)]
 mod rows;
 
 pub use columns::{Columns, have_maps};
 pub use listing::{listed, pulled};
-pub use rows::{RESIDUAL, Row, SUB, try_rows};
