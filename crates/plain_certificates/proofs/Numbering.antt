@@ -50,7 +50,7 @@ all-flat_map : {X : Type 0} (P : X → Type 0) (f : ℕ → List X) (ns : List �
 all-flat_map P f [] h = All-nil P
 all-flat_map P f (n ∷ ns) h = All-append P (f n) (flat_map f ns) (h n) (all-flat_map P f ns h)
 
-arcs_have_ends : (p : Shown) → IsShown p
+pub arcs_have_ends : (p : Shown) → IsShown p
     → All (λ arc. has_ends p.nodes arc ≡ true) (arcs_in_order p)
 arcs_have_ends p shown =
     let P : ShownArc → Type 0 = λ arc. has_ends p.nodes arc ≡ true in

@@ -1,0 +1,4 @@
+pub mod Walking
+pub mod Gathering
+pub mod Numbers
+pub mod Rounds

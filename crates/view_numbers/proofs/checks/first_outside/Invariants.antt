@@ -1,0 +1,12 @@
+use Rattle.std.proofs.Common.{length, ◌-◌, ◌≤◌}
+use Rattle.view_numbers.specs.Breaches.{is_outside, NoneBefore}
+use Rattle.view_numbers.proofs.checks.first_outside.Given as goal
+
+abbrev pub invariant-loop-place : goal.invariant-loop-place
+invariant-loop-place l = record {
+  inside : l.place ≤ length l.values;
+  none : NoneBefore l.place (is_outside l.values);
+}
+
+abbrev pub decreases-loop-place : goal.decreases-loop-place
+decreases-loop-place l = length l.values - l.place
