@@ -16,3 +16,10 @@ pub mod OwnPlaces
 pub mod Planned
 pub mod Moved
 pub mod Stepped
+pub mod Walked
+pub mod Gathered
+pub mod Losing
+pub mod Emptying
+pub mod Moves
+pub mod Contracted
+pub mod Splitting

@@ -135,11 +135,11 @@ grow_one ClearNodes g r valid can then_valid = cc
 
 -- ---- parts
 
-nodes-append : (a b : List PlainStep) → nodes_in (a ++ b) ≡ nodes_in a + nodes_in b
+pub nodes-append : (a b : List PlainStep) → nodes_in (a ++ b) ≡ nodes_in a + nodes_in b
 nodes-append [] b = omega arith
 nodes-append (step ∷ a) b = let r = nodes-append a b in omega (arith, r)
 
-arcs-append : (a b : List PlainStep) → arcs_in (a ++ b) ≡ arcs_in a + arcs_in b
+pub arcs-append : (a b : List PlainStep) → arcs_in (a ++ b) ≡ arcs_in a + arcs_in b
 arcs-append [] b = omega arith
 arcs-append (step ∷ a) b = let r = arcs-append a b in omega (arith, r)
 

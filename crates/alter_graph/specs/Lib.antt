@@ -8,3 +8,5 @@ pub mod Room
 pub mod Verdict
 pub mod Outcome
 pub mod Parts
+pub mod Links
+pub mod Contraction

@@ -26,6 +26,10 @@ abbrev pub Happens : Alteration → State → State → Type 0
 Happens alteration old new =
     Alters (all_steps old.graph alteration) (refusable_steps old.graph alteration) old new
 
+-- all steps of an alteration without refusable ones were taken
+abbrev pub Erases : Alteration → State → State → Type 0
+Erases alteration old new = Goes (all_steps old.graph alteration) old new
+
 -- a step would pass a limit; or else a guard refuses, the oldest at the first step that any
 -- refuses. Want of memory may come at any place
 abbrev pub Refused : List Guard → List PlainStep → Digraph → AlterFault → Type 0

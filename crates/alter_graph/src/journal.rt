@@ -7,6 +7,7 @@ ghost use Rattle.alter_graph.specs.State.{state_of, IsSame, IsInStep};
 ghost use Rattle.alter_graph.specs.Steps.{plain_step, plain_steps, CanTake, CanTakeAll};
 ghost use Rattle.alter_graph.specs.Steps.{HasOwnPlace, HaveOwnPlaces, done_of, fact_in};
 ghost use Rattle.alter_graph.specs.Steps.{back, CanGoBack, undone, CanUndo};
+ghost use Rattle.alter_graph.specs.Room.{nodes_in, arcs_in};
 ghost use Rattle.alter_graph.specs.Verdict.{guards_of};
 ghost use Rattle.alter_graph.specs.Outcome.{Alters, Stays};
 ghost use Rattle.alter_graph.specs.Parts.{Grows, Takes, Fails, Denied};
@@ -16,6 +17,7 @@ use crate::graph::Alterable;
 use crate::steps::{Done, Step, take_step, untake};
 use base_items::Fact;
 use observe_core::Observer;
+use std::alloc::Global;
 
 impl<O: Observer> Alterable<O> {
     /// Takes one step and tells the chain of its sort, or does nothing.
@@ -119,5 +121,24 @@ impl<O: Observer> Alterable<O> {
             }
         }
         Ok(())
+    }
+
+    /// Steps that add nothing, all of them or none.
+    pub(crate) fn run_moves(&mut self, steps: &[Step], alloc: Global) -> Result<(), AlterFault>
+        requires step { IsInStep (state_of O.watch self.old) }
+        requires can { CanTakeAll (plain_steps steps.now) self.old.graph.graph }
+        requires own { HaveOwnPlaces (plain_steps steps.now) (state_of O.watch self.old) }
+        requires no_nodes { nodes_in (plain_steps steps.now) ≡ 0 }
+        requires no_arcs { arcs_in (plain_steps steps.now) ≡ 0 }
+        ensures happens { OnOk result (Alters (plain_steps steps.now) (plain_steps steps.now)
+            (state_of O.watch self.old) (state_of O.watch self.new)) }
+        ensures stays { IfErr result (Stays (plain_steps steps.now)
+            (state_of O.watch self.old) (state_of O.watch self.new)) }
+    {
+        if let Some(limit) = self.limit_passed(0, 0, steps.len() as u64) {
+            return Err(AlterFault::Full(limit));
+        }
+        let mut journal = Vec::new(alloc);
+        self.run(steps, &mut journal)
     }
 }

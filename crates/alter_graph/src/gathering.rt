@@ -1,0 +1,146 @@
+//! The items of a part of an alteration, gathered before it begins.
+
+ghost use Rattle.std.specs.Prelude.{◌≡◌, ◌++◌, filter, OnOk, IfOk};
+ghost use Rattle.plain_digraph.specs.Lists.{AllOf};
+ghost use Rattle.plain_digraph.specs.Items.{IsLive, facts, out_arcs, in_arcs, source_of, target_of};
+ghost use Rattle.plain_digraph.specs.Alterations as alterations;
+ghost use Rattle.plain_digraph.specs.Valid.{IsValid};
+ghost use Rattle.alter_graph.specs.Steps.{plain_steps};
+
+use crate::steps::{Step, told_of};
+use base_items::{Arc, Fact, ItemSort, Node};
+use list_digraph::ListDigraph;
+use std::alloc::{AllocError, Global};
+
+/// What is told of all live items of a sort, by rising id.
+pub fn all_facts(
+    graph: &ListDigraph,
+    sort: ItemSort,
+    alloc: Global,
+) -> Result<Vec<Fact>, AllocError>
+    ensures { IfOk result (λ all. all.items ≡ facts graph.now.graph sort) }
+{
+    let mut all = Vec::new(alloc);
+    for id in 0..graph.used(sort) {
+        if let Some(fact) = graph.fact(sort, id) {
+            all.push(fact)?;
+        }
+    }
+    Ok(all)
+}
+
+/// The arcs from a node, the newest place first.
+pub fn arcs_from(graph: &ListDigraph, n: Node, alloc: Global) -> Result<Vec<u32>, AllocError>
+    requires valid { IsValid graph.now.graph }
+    requires live { IsLive graph.now.graph ItemSort.Node n.0 }
+    ensures { IfOk result (λ arcs. arcs.items ≡ out_arcs graph.now.graph n.0) }
+{
+    let mut arcs = Vec::new(alloc);
+    let mut next = graph.first_out(n);
+    'arcs: while let Some(arc) = next {
+        arcs.push(arc.0)?;
+        next = graph.next_out(arc);
+    }
+    Ok(arcs)
+}
+
+/// The arcs to a node, the newest place first.
+pub fn arcs_to(graph: &ListDigraph, n: Node, alloc: Global) -> Result<Vec<u32>, AllocError>
+    requires valid { IsValid graph.now.graph }
+    requires live { IsLive graph.now.graph ItemSort.Node n.0 }
+    ensures { IfOk result (λ arcs. arcs.items ≡ in_arcs graph.now.graph n.0) }
+{
+    let mut arcs = Vec::new(alloc);
+    let mut next = graph.first_in(n);
+    'arcs: while let Some(arc) = next {
+        arcs.push(arc.0)?;
+        next = graph.next_in(arc);
+    }
+    Ok(arcs)
+}
+
+// Whether the target of an arc is neither of two nodes.
+fn goes_elsewhere(graph: &ListDigraph, arc: u32, u: Node, v: Node) -> bool
+    requires valid { IsValid graph.now.graph }
+    requires live { IsLive graph.now.graph ItemSort.Arc arc }
+    ensures { result ≡ alterations.is_neither u.0 v.0 (target_of graph.now.graph arc) }
+{
+    let end = told_of(graph, ItemSort::Arc, arc).to;
+    end != u.0 && end != v.0
+}
+
+// Whether the source of an arc is neither of two nodes.
+fn comes_from_elsewhere(graph: &ListDigraph, arc: u32, u: Node, v: Node) -> bool
+    requires valid { IsValid graph.now.graph }
+    requires live { IsLive graph.now.graph ItemSort.Arc arc }
+    ensures { result ≡ alterations.is_neither u.0 v.0 (source_of graph.now.graph arc) }
+{
+    let end = told_of(graph, ItemSort::Arc, arc).from;
+    end != u.0 && end != v.0
+}
+
+/// Those of the arcs whose targets are neither of two nodes.
+pub fn with_target_apart(
+    graph: &ListDigraph,
+    arcs: &[u32],
+    u: Node,
+    v: Node,
+    alloc: Global,
+) -> Result<Vec<u32>, AllocError>
+    requires valid { IsValid graph.now.graph }
+    requires live { AllOf (IsLive graph.now.graph ItemSort.Arc) arcs.now }
+    ensures { IfOk result (λ kept. kept.items ≡ filter
+        (λ arc. alterations.is_neither u.0 v.0 (target_of graph.now.graph arc)) arcs.now) }
+{
+    let mut kept = Vec::new(alloc);
+    for arc in arcs {
+        if goes_elsewhere(graph, *arc, u, v) {
+            kept.push(*arc)?;
+        }
+    }
+    Ok(kept)
+}
+
+/// Those of the arcs whose sources are neither of two nodes.
+pub fn with_source_apart(
+    graph: &ListDigraph,
+    arcs: &[u32],
+    u: Node,
+    v: Node,
+    alloc: Global,
+) -> Result<Vec<u32>, AllocError>
+    requires valid { IsValid graph.now.graph }
+    requires live { AllOf (IsLive graph.now.graph ItemSort.Arc) arcs.now }
+    ensures { IfOk result (λ kept. kept.items ≡ filter
+        (λ arc. alterations.is_neither u.0 v.0 (source_of graph.now.graph arc)) arcs.now) }
+{
+    let mut kept = Vec::new(alloc);
+    for arc in arcs {
+        if comes_from_elsewhere(graph, *arc, u, v) {
+            kept.push(*arc)?;
+        }
+    }
+    Ok(kept)
+}
+
+/// The moves of these arcs' sources to a node, behind other steps.
+pub fn push_sources(steps: &mut Vec<Step>, arcs: &[u32], u: Node) -> Result<(), AllocError>
+    ensures { OnOk result (plain_steps steps.new.items
+        ≡ plain_steps steps.old.items ++ alterations.sources_to u.0 arcs.now) }
+{
+    for arc in arcs {
+        steps.push(Step::MoveFrom(Arc(*arc), u))?;
+    }
+    Ok(())
+}
+
+/// The moves of these arcs' targets to a node, behind other steps.
+pub fn push_targets(steps: &mut Vec<Step>, arcs: &[u32], v: Node) -> Result<(), AllocError>
+    ensures { OnOk result (plain_steps steps.new.items
+        ≡ plain_steps steps.old.items ++ alterations.targets_to v.0 arcs.now) }
+{
+    for arc in arcs {
+        steps.push(Step::MoveTo(Arc(*arc), v))?;
+    }
+    Ok(())
+}
