@@ -4,8 +4,10 @@ use Rattle.std.specs.FinMap as fin
 use Rattle.base_items.specs.declared.items.ItemSort.{ItemSort}
 use Rattle.script_words.specs.declared.commands.Command.{Command}
 use Rattle.script_words.specs.declared.commands.Command.TheVariants as commands
+use Rattle.script_words.specs.declared.commands.GuardWord.{GuardWord}
 use Rattle.report_text.specs.declared.faults.Fault.{Fault}
 use Rattle.lgf_file.specs.Documents.{IsDoc}
+use Rattle.lgf_file.specs.declared.documents.Doc.{Doc}
 use Rattle.plain_digraph.specs.PlainSteps.{PlainStep, after_steps}
 use Rattle.plain_world.specs.declared.answers.Answer.{Answer}
 use Rattle.plain_world.specs.declared.answers.Answer.TheVariants.{Refused}
@@ -13,7 +15,7 @@ use Rattle.plain_world.specs.Tables.{Name}
 use Rattle.plain_world.specs.World.{World, attached}
 use Rattle.plain_world.specs.Following.{follow}
 use Rattle.plain_world.specs.Demands.{item_named}
-use Rattle.plain_world.specs.Documents.{doc_of}
+use Rattle.plain_world.specs.Documents.{doc_of, load}
 use Rattle.plain_world.specs.Steps.{Step}
 use Rattle.plain_world.specs.Valid.{IsWorld}
 
@@ -39,6 +41,10 @@ AlteredGraphsFollow = (steps : List PlainStep) (world : World)
 -- the document of a valid world is valid
 abbrev pub DocumentsAreValid : Type 0
 DocumentsAreValid = (world : World) → IsWorld world → IsDoc (doc_of world)
+
+-- loading a valid document gives a valid world
+abbrev pub LoadedWorldsAreValid : Type 0
+LoadedWorldsAreValid = (doc : Doc) (pool : List GuardWord) → IsDoc doc → IsWorld (load doc pool)
 
 -- ---- one answer
 

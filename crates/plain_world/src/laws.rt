@@ -43,3 +43,8 @@ pub fn refusals_are_one()
 pub fn documents_are_valid()
     ensures { laws.DocumentsAreValid }
 {}
+
+/// Loading a valid document gives a valid world.
+pub fn loaded_worlds_are_valid()
+    ensures { laws.LoadedWorldsAreValid }
+{}
