@@ -1,5 +1,6 @@
 //! Laws of the plain machine. A function here has no code: its contract is the law.
 
+ghost use Rattle.plain_world.specs.Choices as choices;
 ghost use Rattle.plain_world.specs.Laws as laws;
 ghost use Rattle.plain_world.specs.Order as order;
 
@@ -47,4 +48,15 @@ pub fn documents_are_valid()
 /// Loading a valid document gives a valid world.
 pub fn loaded_worlds_are_valid()
     ensures { laws.LoadedWorldsAreValid }
+{}
+
+/// In a valid world, answers of one command by choices that agree are the same, and leave the same
+/// world.
+pub fn choices_tell_answers()
+    ensures { choices.ChoicesTellAnswers }
+{}
+
+/// One answer of a command leaves one world, where the names of the view's arcs differ.
+pub fn answers_tell_worlds()
+    ensures { choices.AnswersTellWorlds }
 {}
