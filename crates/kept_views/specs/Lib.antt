@@ -1,0 +1,3 @@
+pub mod ItemViews
+pub mod Views
+pub mod Sound

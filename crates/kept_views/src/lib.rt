@@ -1,0 +1,9 @@
+//! The nodes and the arcs of kept views: observers that hold each item with how it is shown.
+#![tactic(auto)]
+
+mod arcs;
+mod items;
+mod nodes;
+
+pub use arcs::KeptArcs;
+pub use nodes::KeptNodes;
