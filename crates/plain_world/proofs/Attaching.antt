@@ -391,7 +391,7 @@ differ_with labels new name unused differ id other own is also =
             | inl there ↦ here ∙ sym there
             | inr apart ↦
                 let named = same_Some name own (sym (get_new labels new name)
-                    ∙ (ap (fin.get (fin.insert labels new name)) (sym here) ∙ is)) in
+                ∙ (ap (fin.get (fin.insert labels new name)) (sym here) ∙ is)) in
                 absurd (unused other
                 (sym (get_other labels new name other apart) ∙ (also ∙ ap Some (sym named))))
           ]
@@ -399,7 +399,7 @@ differ_with labels new name unused differ id other own is also =
           elim (cases_eq other new) [
             | inl there ↦
                 let named = same_Some name own (sym (get_new labels new name)
-                    ∙ (ap (fin.get (fin.insert labels new name)) (sym there) ∙ also)) in
+                ∙ (ap (fin.get (fin.insert labels new name)) (sym there) ∙ also)) in
                 absurd (unused id
                 (sym (get_other labels new name id apart) ∙ (is ∙ ap Some (sym named))))
             | inr also_apart ↦
