@@ -23,3 +23,5 @@ pub mod Emptying
 pub mod Moves
 pub mod Contracted
 pub mod Splitting
+pub mod Reseated
+pub mod Attached

@@ -10,3 +10,4 @@ pub mod Outcome
 pub mod Parts
 pub mod Links
 pub mod Contraction
+pub mod Attaching

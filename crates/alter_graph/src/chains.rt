@@ -1,16 +1,22 @@
 //! The two chains of observers with the snapshots that sit in both, and what they are told.
 
-ghost use Rattle.std.specs.Prelude.{◌≡◌, OnOk, OnErr, IfErr};
+ghost use Rattle.std.specs.Prelude.{◌≡◌, OnOk, OnErr, IfOk, IfErr, filter, not, option_map};
+ghost use Rattle.std.specs.Option.{option_copied};
 ghost use Rattle.observe_core.specs.Changes.{told, untold, CanTell, CanUntell};
 ghost use Rattle.observe_core.specs.Losses.{CanLose};
-ghost use Rattle.notify_chain.specs.Seats.{AllSeats, Refuses};
+ghost use Rattle.observe_core.specs.Conditions.{CanBuild};
+ghost use Rattle.observe_core.specs.Told.{built};
+ghost use Rattle.notify_chain.specs.Seats.{AllSeats, Refuses, Attached, HandsBack, find_seat};
+ghost use Rattle.notify_chain.specs.Seats.{seat_seen};
+ghost use Rattle.alter_graph.specs.Attaching.{with_seats, uses_key, detached};
+ghost use Rattle.alter_graph.specs.Attaching.{first_left, popped};
 ghost use Rattle.alter_graph.specs.Chains.{chains_seen, no_chains, seats_in, in_chain};
 ghost use Rattle.alter_graph.specs.Chains.{chain_heard, chain_lost, IsSameChains};
 ghost use Rattle.alter_graph.specs.Steps.{done_sort, change_of};
 
 use crate::snaps::SnapKeys;
 use crate::steps::Done;
-use base_items::ItemSort;
+use base_items::{Fact, ItemSort};
 use notify_chain::{Chain, SeatKey};
 use observe_core::{Loss, Observer, Veto};
 use std::alloc::Global;
@@ -87,5 +93,89 @@ impl<O: Observer> Chains<O> {
             ItemSort::Node => self.nodes.lose(loss),
             ItemSort::Arc => self.arcs.lose(loss),
         }
+    }
+
+    /// Tells an observer of all items of a sort, and seats it in their chain.
+    pub fn attach(&mut self, sort: ItemSort, o: O, present: &[Fact]) -> Result<SeatKey, (O, Veto)>
+        requires { CanBuild present.now (O.watch o).seen }
+        ensures seat { IfOk result (λ key. Attached
+            (seats_in sort (chains_seen O.watch self.old))
+            (seats_in sort (chains_seen O.watch self.new)) key.0 (O.watch o)
+            (built present.now (O.watch o).seen)) }
+        ensures rest { chains_seen O.watch self.new
+            ≡ in_chain sort (with_seats (seats_in sort (chains_seen O.watch self.new)))
+            (chains_seen O.watch self.old) }
+        ensures same { OnErr result (chains_seen O.watch self.new ≡ chains_seen O.watch self.old) }
+        ensures refused { IfErr result (λ e. HandsBack O.watch o present.now e.0 e.1) }
+    {
+        match sort {
+            ItemSort::Node => self.nodes.attach(o, present),
+            ItemSort::Arc => self.arcs.attach(o, present),
+        }
+    }
+
+    /// Takes an observer out, and the snapshot of which it is a half off the list.
+    pub fn detach(&mut self, sort: ItemSort, key: SeatKey) -> Option<O>
+        ensures found { seat_seen O.watch key.0 result
+            ≡ find_seat key.0 (seats_in sort (chains_seen O.watch self.old)) }
+        ensures detached { chains_seen O.watch self.new
+            ≡ detached sort key.0 (chains_seen O.watch self.old) }
+    {
+        take_off(&mut self.snaps, sort, key);
+        match sort {
+            ItemSort::Node => self.nodes.detach(key),
+            ItemSort::Arc => self.arcs.detach(key),
+        }
+    }
+
+    /// The observer of a seat.
+    pub fn seat(&self, sort: ItemSort, key: SeatKey) -> Option<&O>
+        ensures { seat_seen O.watch key.0 (option_copied result)
+            ≡ find_seat key.0 (seats_in sort (chains_seen O.watch self.now)) }
+    {
+        match sort {
+            ItemSort::Node => self.nodes.get(key),
+            ItemSort::Arc => self.arcs.get(key),
+        }
+    }
+
+    /// Takes the first of the keys that left, those of the node chain first.
+    pub fn pop_left(&mut self) -> Option<(ItemSort, SeatKey)>
+        ensures first { let old = chains_seen O.watch self.old in
+            option_map (λ left. (left.0, left.1.0)) result
+            ≡ first_left old.nodes.left old.arcs.left }
+        ensures popped { chains_seen O.watch self.new ≡ popped (chains_seen O.watch self.old) }
+    {
+        if let Some(key) = self.nodes.pop_left() {
+            return Some((ItemSort::Node, key));
+        }
+        match self.arcs.pop_left() {
+            Some(key) => Some((ItemSort::Arc, key)),
+            None => None,
+        }
+    }
+}
+
+// Takes the names that use a key off the list.
+fn take_off(names: &mut Vec<SnapKeys>, sort: ItemSort, key: SeatKey)
+    ensures { names.new.items ≡ filter (λ k. not (uses_key sort key.0 k)) names.old.items }
+{
+    let mut i = 0;
+    'names: while i < names.len() {
+        if uses(&names[i], sort, key) {
+            names.remove(i);
+        } else {
+            i += 1;
+        }
+    }
+}
+
+// Whether a snapshot's half of the sort has the key.
+fn uses(name: &SnapKeys, sort: ItemSort, key: SeatKey) -> bool
+    ensures { result ≡ uses_key sort key.0 name.now }
+{
+    match sort {
+        ItemSort::Node => name.nodes.0 == key.0,
+        ItemSort::Arc => name.arcs.0 == key.0,
     }
 }

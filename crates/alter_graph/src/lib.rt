@@ -14,6 +14,7 @@ mod faults;
 mod gathering;
 mod graph;
 mod journal;
+mod seats;
 mod singles;
 mod snaps;
 mod splits;

@@ -48,6 +48,7 @@ returns g c =
     (chains_seen w c.lose.new.self)) c.told_of-fact.ensures c.lose.ensures in
     rw (← c.self.view_is) (record {
       erases =
-          lost_goes w (EraseArc c.args.a.0) c.self.inside.graph.graph c.self.inside.chains refl at live
+          lost_goes w (EraseArc c.args.a.0) c.self.inside.graph.graph c.self.inside.chains refl at
+          live
           (Erase _) refl c.erase_arc.new.self.graph c.lose.new.self c.erase_arc.ensures.erased told;
     })

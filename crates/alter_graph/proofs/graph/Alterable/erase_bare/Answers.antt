@@ -56,6 +56,8 @@ returns g c =
     (chains_seen w c.lose.new.self)) c.told_of-fact.ensures c.lose.ensures in
     rw (← c.self.view_is) (record {
       goes =
-          lost_goes w (EraseNode c.args.n.0) c.self.inside.graph.graph c.self.inside.chains refl at can
-          (Erase _) refl c.erase_node.new.self.graph c.lose.new.self c.erase_node.ensures.erased told;
+          lost_goes w (EraseNode c.args.n.0) c.self.inside.graph.graph c.self.inside.chains refl at
+          can
+          (Erase _) refl c.erase_node.new.self.graph c.lose.new.self c.erase_node.ensures.erased
+          told;
     })
