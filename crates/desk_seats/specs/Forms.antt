@@ -1,6 +1,6 @@
 -- The form of a seat is the place of its variant.
 use Rattle.std.specs.Prelude.{ℕ}
-use Rattle.observe_core.specs.Seen.{Watched, HasOwnNumbers}
+use Rattle.observe_core.specs.Seen.{Watched}
 
 -- what contracts see of a seat, from what they see of what it holds
 abbrev pub formed : ℕ → Watched → Watched

@@ -2,5 +2,6 @@
 #![tactic(auto)]
 
 mod seat;
+mod writes;
 
 pub use seat::Seat;
