@@ -46,7 +46,8 @@ macro_rules! held {
 impl<B: Observer> Observer for Seat<B> {
     ghost use Rattle.desk_seats.specs.Forms.{formed};
     ghost use Rattle.desk_seats.specs.declared.seat.Seat.TheVariants.{Ints, Bools, Texts, Refs};
-    ghost use Rattle.desk_seats.specs.declared.seat.Seat.TheVariants.{Degrees, Trues, Half as Halves};
+    ghost use Rattle.desk_seats.specs.declared.seat.Seat.TheVariants.{Degrees, Trues};
+    ghost use Rattle.desk_seats.specs.declared.seat.Seat.TheVariants.{Half as Halves};
     ghost use Rattle.desk_seats.specs.declared.seat.Seat.TheVariants.{KeptNodes as Nodes};
     ghost use Rattle.desk_seats.specs.declared.seat.Seat.TheVariants.{KeptArcs as Arcs};
     ghost use Rattle.desk_seats.specs.declared.seat.Seat.TheVariants.{Ties as Tied, Boxed};

@@ -79,9 +79,11 @@ impl<B: Observer> Seat<B> {
     pub fn reserve_label(&mut self, label: &Text) -> Result<(), AllocError>
         requires refs { IsRefs self.old }
         requires free { IsFreeLabel label.now (labels_in self.old) }
-        ensures same { (⟦<Seat<B> as Observer>⟧.watch self.new).seen ≡ (⟦<Seat<B> as Observer>⟧.watch self.old).seen }
+        ensures same { (⟦<Seat<B> as Observer>⟧.watch self.new).seen
+            ≡ (⟦<Seat<B> as Observer>⟧.watch self.old).seen }
         ensures ok { OnOk result (1 ≤ (⟦<Seat<B> as Observer>⟧.watch self.new).room) }
-        ensures room { (⟦<Seat<B> as Observer>⟧.watch self.old).room ≤ (⟦<Seat<B> as Observer>⟧.watch self.new).room }
+        ensures room { (⟦<Seat<B> as Observer>⟧.watch self.old).room
+            ≤ (⟦<Seat<B> as Observer>⟧.watch self.new).room }
     {
         match self {
             Seat::Refs(refs) => refs.reserve(label),
@@ -99,7 +101,8 @@ impl<B: Observer> Seat<B> {
             ≡ holding (Values Labels
             (swapped entry_id (with_label id (Some label)) (labels_in self.old)))
             (⟦<Seat<B> as Observer>⟧.watch self.old).seen }
-        ensures room { (⟦<Seat<B> as Observer>⟧.watch self.old).room ≤ (⟦<Seat<B> as Observer>⟧.watch self.new).room + 1 }
+        ensures room { (⟦<Seat<B> as Observer>⟧.watch self.old).room
+            ≤ (⟦<Seat<B> as Observer>⟧.watch self.new).room + 1 }
     {
         match self {
             Seat::Refs(refs) => refs.put(id, label),
@@ -119,7 +122,8 @@ impl<B: Observer> Seat<B> {
             (swapped entry_id (with_label id (Some label)) (labels_in self.old)))
             (⟦<Seat<B> as Observer>⟧.watch self.old).seen }
         ensures old { HasLabel id (Some result) (labels_in self.old) }
-        ensures room { (⟦<Seat<B> as Observer>⟧.watch self.old).room ≤ (⟦<Seat<B> as Observer>⟧.watch self.new).room + 1 }
+        ensures room { (⟦<Seat<B> as Observer>⟧.watch self.old).room
+            ≤ (⟦<Seat<B> as Observer>⟧.watch self.new).room + 1 }
     {
         match self {
             Seat::Refs(refs) => refs.replace(id, label),
@@ -127,7 +131,8 @@ impl<B: Observer> Seat<B> {
         }
     }
 
-    /// Places a live node of a kept view by its present value. Where there is no filter it is shown.
+    /// Places a live node of a kept view by its present value. Where there is no filter it is
+    /// shown.
     pub fn set_node(&mut self, id: u32, shown: bool)
         requires live { IsTrue (has_id marked_id id (nodes_in self.old)) }
         requires all { IsTrue (shows_all self.old) → IsTrue shown }
@@ -142,7 +147,8 @@ impl<B: Observer> Seat<B> {
         }
     }
 
-    /// Places a live arc of a kept view by its present values. Where there is no filter it is shown.
+    /// Places a live arc of a kept view by its present values. Where there is no filter it is
+    /// shown.
     pub fn set_arc(&mut self, id: u32, shown: bool, forward: bool, backward: bool)
         requires live { IsTrue (has_id marked_id id (arcs_in self.old)) }
         requires all { IsTrue (shows_all self.old) → IsTrue shown }
@@ -157,14 +163,16 @@ impl<B: Observer> Seat<B> {
         }
     }
 
-    /// Ties a number that isn't tied to an item. The error is want of memory; all is then as before.
+    /// Ties a number that isn't tied to an item. The error is want of memory; all is then as
+    /// before.
     pub fn put_tie(&mut self, tie: u32, id: u32) -> Result<(), AllocError>
         requires ties { IsTies self.old }
         requires free { Lacks tie_id tie (ties_in self.old) }
         ensures ok { OnOk result ((⟦<Seat<B> as Observer>⟧.watch self.new).seen
             ≡ holding (TiesHeld (with_item tie_id (tie_to tie id) (ties_in self.old)))
             (⟦<Seat<B> as Observer>⟧.watch self.old).seen) }
-        ensures err { OnErr result ((⟦<Seat<B> as Observer>⟧.watch self.new).seen ≡ (⟦<Seat<B> as Observer>⟧.watch self.old).seen) }
+        ensures err { OnErr result ((⟦<Seat<B> as Observer>⟧.watch self.new).seen
+            ≡ (⟦<Seat<B> as Observer>⟧.watch self.old).seen) }
     {
         match self {
             Seat::Ties(ties) => ties.put(tie, id),
