@@ -123,7 +123,7 @@ module _ (g : Digraph) (sort : ItemSort) (valid : IsValid g) (s : Seen) (none : 
         (placed_all (facts g sort) (facts_live g sort valid).rising)
         (fits-built (facts g sort) s (fits_none s none))
 
-    built_stands : HasNoCounts s → (seat : SeatSeen) → seat.seen ≡ built (facts g sort) s
+    pub built_stands : HasNoCounts s → (seat : SeatSeen) → seat.seen ≡ built (facts g sort) s
         → Stands g.stamps (facts g sort) seat
     built_stands counts seat e =
         let few = live-few (facts g sort) (facts_live g sort valid) in

@@ -25,3 +25,4 @@ pub mod Contracted
 pub mod Splitting
 pub mod Reseated
 pub mod Attached
+pub mod Snapping

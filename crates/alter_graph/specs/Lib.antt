@@ -11,3 +11,4 @@ pub mod Parts
 pub mod Links
 pub mod Contraction
 pub mod Attaching
+pub mod Snapping

@@ -1,6 +1,7 @@
 //! The two chains of observers with the snapshots that sit in both, and what they are told.
 
 ghost use Rattle.std.specs.Prelude.{◌≡◌, OnOk, OnErr, IfOk, IfErr, filter, not, option_map};
+ghost use Rattle.std.specs.Prelude.{IfSome, IfNone};
 ghost use Rattle.std.specs.Option.{option_copied};
 ghost use Rattle.observe_core.specs.Changes.{told, untold, CanTell, CanUntell};
 ghost use Rattle.observe_core.specs.Losses.{CanLose};
@@ -10,6 +11,7 @@ ghost use Rattle.notify_chain.specs.Seats.{AllSeats, Refuses, Attached, HandsBac
 ghost use Rattle.notify_chain.specs.Seats.{seat_seen};
 ghost use Rattle.alter_graph.specs.Attaching.{with_seats, uses_key, detached};
 ghost use Rattle.alter_graph.specs.Attaching.{first_left, popped};
+ghost use Rattle.alter_graph.specs.Snapping.{Seated};
 ghost use Rattle.alter_graph.specs.Chains.{chains_seen, no_chains, seats_in, in_chain};
 ghost use Rattle.alter_graph.specs.Chains.{chain_heard, chain_lost, IsSameChains};
 ghost use Rattle.alter_graph.specs.Steps.{done_sort, change_of};
@@ -125,6 +127,39 @@ impl<O: Observer> Chains<O> {
         match sort {
             ItemSort::Node => self.nodes.detach(key),
             ItemSort::Arc => self.arcs.detach(key),
+        }
+    }
+
+    /// Seats an observer of either sort, told of all items, and puts the name of both last. None
+    /// for want of memory or where one refuses.
+    pub fn snapshot(&mut self, node: O, arc: O, nodes: &[Fact], arcs: &[Fact]) -> Option<SnapKeys>
+        requires nodes { CanBuild nodes.now (O.watch node).seen }
+        requires arcs { CanBuild arcs.now (O.watch arc).seen }
+        ensures seated { IfSome result (λ name. Seated name (O.watch node) (O.watch arc)
+            nodes.now arcs.now (chains_seen O.watch self.old) (chains_seen O.watch self.new)) }
+        ensures same { IfNone result (chains_seen O.watch self.new ≡ chains_seen O.watch self.old) }
+    {
+        if self.snaps.reserve(1).is_err() {
+            return None;
+        }
+        let node_key = match self.nodes.attach(node, nodes) {
+            Ok(key) => key,
+            Err(_) => return None,
+        };
+        let arc_key = match self.arcs.attach(arc, arcs) {
+            Ok(key) => key,
+            Err(_) => {
+                self.nodes.detach(node_key);
+                return None;
+            }
+        };
+        let name = SnapKeys {
+            nodes: node_key,
+            arcs: arc_key,
+        };
+        match self.snaps.push(name) {
+            Ok(()) => Some(name),
+            Err(_) => unreachable!(),
         }
     }
 

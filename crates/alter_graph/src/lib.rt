@@ -17,9 +17,11 @@ mod journal;
 mod seats;
 mod singles;
 mod snaps;
+mod snapshots;
 mod splits;
 mod steps;
 
 pub use faults::AlterFault;
 pub use graph::Alterable;
 pub use snaps::SnapKeys;
+pub use snapshots::HoldsHalf;
