@@ -12,3 +12,4 @@ pub mod Links
 pub mod Contraction
 pub mod Attaching
 pub mod Snapping
+pub mod Lending

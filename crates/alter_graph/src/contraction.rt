@@ -60,9 +60,12 @@ impl<O: Observer> Alterable<O> {
         requires in_step { IsInStep (state_of O.watch self.old) }
         requires into { IsLive self.old.graph.graph ItemSort.Node u.0 }
         requires from { IsLive self.old.graph.graph ItemSort.Node v.0 }
-        ensures happens { let moves = refusable_steps self.old.graph.graph (contraction_of loops u v) in
-            OnOk result (Alters moves moves (state_of O.watch self.old) (state_of O.watch self.new)) }
-        ensures stays { let moves = refusable_steps self.old.graph.graph (contraction_of loops u v) in
+        ensures happens { let moves = refusable_steps self.old.graph.graph
+            (contraction_of loops u v) in
+            OnOk result (Alters moves moves (state_of O.watch self.old)
+            (state_of O.watch self.new)) }
+        ensures stays { let moves = refusable_steps self.old.graph.graph
+            (contraction_of loops u v) in
             IfErr result (Stays moves (state_of O.watch self.old) (state_of O.watch self.new)) }
     {
         match contraction_steps(self.graph(), u, v, loops, alloc) {

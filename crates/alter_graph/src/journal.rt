@@ -33,7 +33,8 @@ impl<O: Observer> Alterable<O> {
         ensures may_return { let done = done_of (plain_step step) self.old.graph.graph in
             OnOk result (CanGoBack done (state_of O.watch self.new)) }
         ensures returns { let done = done_of (plain_step step) self.old.graph.graph in
-            OnOk result (IsSame (state_of O.watch self.old) (back done (state_of O.watch self.new))) }
+            OnOk result (IsSame (state_of O.watch self.old)
+            (back done (state_of O.watch self.new))) }
         ensures denied { IfErr result (Denied (guards_of (chains_seen O.watch self.old.chains))
             (plain_step step ∷ []) self.old.graph.graph) }
         ensures stays { IfErr result (Stays (plain_step step ∷ [])

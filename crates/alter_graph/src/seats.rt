@@ -64,6 +64,20 @@ impl<O: Observer> Alterable<O> {
         self.chains.seat(sort, key)
     }
 
+    ghost use Rattle.std.specs.Borrow.{sem};
+    ghost use Rattle.std.specs.Option.{option_copied_mut};
+    ghost use Rattle.alter_graph.specs.Lending.{graph_lends};
+
+    /// Lends the observer of a seat. None exactly where the key has no seat. Once the loan ends the
+    /// seat has the last observer written, and all else is as before.
+    pub fn seat_mut(&mut self, sort: ItemSort, key: SeatKey) -> Option<&mut O>
+        ensures* writes_back { sem 𝓛 (graph_lends O.row self.entry sort key.0 result) }
+        ensures value { seat_seen O.watch key.0 (option_copied_mut result)
+            ≡ find_seat key.0 (seats_in sort (chains_seen O.watch self.old.chains)) }
+    {
+        self.chains.seat_mut(sort, key)
+    }
+
     /// Takes the first of the keys of those that left by themselves, those of the node chain
     /// before those of the arc chain. None exactly where there is none.
     pub fn pop_left(&mut self) -> Option<(ItemSort, SeatKey)>
