@@ -110,7 +110,7 @@ types_alike (e ∷ es) (f ∷ fs) name alike =
 types_alike [] (f ∷ fs) name alike = absurd alike
 types_alike (e ∷ es) [] name alike = absurd alike
 
-typed_alike : (maps other : List (Named Held)) (type : MapType) (name : Name) → Alike maps other
+pub typed_alike : (maps other : List (Named Held)) (type : MapType) (name : Name) → Alike maps other
     → typed maps type name ≡ typed other type name
 typed_alike maps other type name alike =
     ap (λ found. option_map_or (is_type type) found false) (types_alike maps other name alike)
@@ -382,7 +382,7 @@ kept_texts g sort fresh items id texts live kept =
 abbrev pub IsUnused : Column Name → Name → Type 0
 IsUnused labels name = (id : ℕ) → fin.get labels id ≡ Some name → ⊥
 
-differ_with : (labels : Column Name) (new : ℕ) (name : Name) → IsUnused labels name
+pub differ_with : (labels : Column Name) (new : ℕ) (name : Name) → IsUnused labels name
     → LabelsDiffer labels → LabelsDiffer (fin.insert labels new name)
 differ_with labels new name unused differ id other own is also =
     elim (cases_eq id new) [

@@ -33,12 +33,12 @@ arcs_alike world id valid =
     (fin.keys world.graph.ends) valid.sources_whole
     ∙ sym (keys-has world.graph.ends id))
 
-live_listed : (world : World) (sort : ItemSort) (id : ℕ) → digraph.IsValid world.graph
+pub live_listed : (world : World) (sort : ItemSort) (id : ℕ) → digraph.IsValid world.graph
     → IsLive world.graph sort id → has (live world sort) id ≡ true
 live_listed world Node id valid is = is
 live_listed world Arc id valid is = arcs_alike world id valid ∙ is
 
-listed_live : (world : World) (sort : ItemSort) (id : ℕ) → digraph.IsValid world.graph
+pub listed_live : (world : World) (sort : ItemSort) (id : ℕ) → digraph.IsValid world.graph
     → has (live world sort) id ≡ true → IsLive world.graph sort id
 listed_live world Node id valid at = at
 listed_live world Arc id valid at = sym (arcs_alike world id valid) ∙ at

@@ -5,6 +5,7 @@ use Rattle.base_items.specs.declared.items.ItemSort.{ItemSort}
 use Rattle.script_words.specs.declared.commands.Command.{Command}
 use Rattle.script_words.specs.declared.commands.Command.TheVariants as commands
 use Rattle.script_words.specs.declared.commands.GuardWord.{GuardWord}
+use Rattle.script_words.specs.Valid.{IsValid}
 use Rattle.report_text.specs.declared.faults.Fault.{Fault}
 use Rattle.lgf_file.specs.Documents.{IsDoc}
 use Rattle.lgf_file.specs.declared.documents.Doc.{Doc}
@@ -16,6 +17,7 @@ use Rattle.plain_world.specs.World.{World, attached}
 use Rattle.plain_world.specs.Following.{follow}
 use Rattle.plain_world.specs.Demands.{item_named}
 use Rattle.plain_world.specs.Documents.{doc_of, load}
+use Rattle.plain_world.specs.Altering.{alteration_of}
 use Rattle.plain_world.specs.Steps.{Step}
 use Rattle.plain_world.specs.Valid.{IsWorld}
 
@@ -45,6 +47,14 @@ DocumentsAreValid = (world : World) → IsWorld world → IsDoc (doc_of world)
 -- loading a valid document gives a valid world
 abbrev pub LoadedWorldsAreValid : Type 0
 LoadedWorldsAreValid = (doc : Doc) (pool : List GuardWord) → IsDoc doc → IsWorld (load doc pool)
+
+-- ---- steps
+
+-- a valid command that asks for no alteration leaves a valid world valid
+abbrev pub OthersKeepWorlds : Type 0
+OthersKeepWorlds = (world later : World) (command : Command) (answer : Answer) → IsWorld world
+    → IsValid command → alteration_of world command ≡ None → Step world command answer later
+    → IsWorld later
 
 -- ---- one answer
 

@@ -60,3 +60,8 @@ pub fn choices_tell_answers()
 pub fn answers_tell_worlds()
     ensures { choices.AnswersTellWorlds }
 {}
+
+/// A valid command that asks for no alteration leaves a valid world valid.
+pub fn others_keep_worlds()
+    ensures { laws.OthersKeepWorlds }
+{}
