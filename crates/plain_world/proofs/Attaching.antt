@@ -217,7 +217,7 @@ type_stays change (Texts column) = refl
 type_stays change (Degrees way) = refl
 type_stays change (Trues map) = refl
 
-alike_after : (change : Change) (maps : List (Named Held))
+pub alike_after : (change : Change) (maps : List (Named Held))
     → Alike (map (λ e. under e.name (held_after change e.value)) maps) maps
 alike_after change [] = tt
 alike_after change (e ∷ es) = (refl, type_stays change e.value, alike_after change es)

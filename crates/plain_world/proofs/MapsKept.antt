@@ -59,7 +59,7 @@ abbrev LayerWith : World → ItemSort → List (Named Held) → LayerWord → Ty
 LayerWith w Node maps layer = LayerOk maps w.arcs.maps layer
 LayerWith w Arc maps layer = LayerOk w.nodes.maps maps layer
 
-named_stays : (old new : Name → Bool) (name : Option Name)
+pub named_stays : (old new : Name → Bool) (name : Option Name)
     → ((n : Name) → old n ≡ true → new n ≡ true) → IsNamed old name → IsNamed new name
 named_stays old new None stays is = tt
 named_stays old new (Some name) stays is = stays name is
@@ -67,18 +67,16 @@ named_stays old new (Some name) stays is = stays name is
 layer_stays : (w : World) (sort : ItemSort) (maps : List (Named Held)) (layer : LayerWord)
     → KeepsTypes (attached w sort).maps maps → LayerOk w.nodes.maps w.arcs.maps layer
     → LayerWith w sort maps layer
-layer_stays w Node maps (words.Sub nodes arcs) keeps is =
-    (
-      named_stays (typed w.nodes.maps types.Bools) (typed maps types.Bools) nodes
-          (keeps types.Bools) is.0,
-      is.1,
-    )
-layer_stays w Arc maps (words.Sub nodes arcs) keeps is =
-    (
-      is.0,
-      named_stays (typed w.arcs.maps types.Bools) (typed maps types.Bools) arcs
-          (keeps types.Bools) is.1,
-    )
+layer_stays w Node maps (words.Sub nodes arcs) keeps is = (
+  named_stays (typed w.nodes.maps types.Bools) (typed maps types.Bools) nodes
+      (keeps types.Bools) is.0,
+  is.1,
+)
+layer_stays w Arc maps (words.Sub nodes arcs) keeps is = (
+  is.0,
+  named_stays (typed w.arcs.maps types.Bools) (typed maps types.Bools) arcs
+      (keeps types.Bools) is.1,
+)
 layer_stays w Node maps (words.Residual cap flow) keeps is = is
 layer_stays w Arc maps (words.Residual cap flow) keeps is =
     (keeps types.Ints cap is.0, keeps types.Ints flow is.1)
@@ -100,18 +98,16 @@ unread_stays : (w : World) (sort : ItemSort) (map : Name) (maps : List (Named He
     (layer : LayerWord) → KeepsOthers map (attached w sort).maps maps
     → reads sort map layer ≡ false → LayerOk w.nodes.maps w.arcs.maps layer
     → LayerWith w sort maps layer
-unread_stays w Node map maps (words.Sub nodes arcs) keeps apart is =
-    (
-      other_stays map (typed w.nodes.maps types.Bools) (typed maps types.Bools) nodes
-          (keeps types.Bools) apart is.0,
-      is.1,
-    )
-unread_stays w Arc map maps (words.Sub nodes arcs) keeps apart is =
-    (
-      is.0,
-      other_stays map (typed w.arcs.maps types.Bools) (typed maps types.Bools) arcs
-          (keeps types.Bools) apart is.1,
-    )
+unread_stays w Node map maps (words.Sub nodes arcs) keeps apart is = (
+  other_stays map (typed w.nodes.maps types.Bools) (typed maps types.Bools) nodes
+      (keeps types.Bools) apart is.0,
+  is.1,
+)
+unread_stays w Arc map maps (words.Sub nodes arcs) keeps apart is = (
+  is.0,
+  other_stays map (typed w.arcs.maps types.Bools) (typed maps types.Bools) arcs
+      (keeps types.Bools) apart is.1,
+)
 unread_stays w Node map maps (words.Residual cap flow) keeps apart is = is
 unread_stays w Arc map maps (words.Residual cap flow) keeps apart is =
     let parts = or_parts (bytes_eq map cap) (bytes_eq map flow) apart in

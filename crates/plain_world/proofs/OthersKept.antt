@@ -47,19 +47,19 @@ use Rattle.plain_world.proofs.MapsKept.{relabel_kept, spelled_held}
 
 -- ---- demands that are met
 
-or_none : (o p : Option Fault) → option_or o p ≡ None → (o ≡ None) × (p ≡ None)
+pub or_none : (o p : Option Fault) → option_or o p ≡ None → (o ≡ None) × (p ≡ None)
 or_none None p none = (refl, none)
 or_none (Some fault) p none = absurd (none-some fault (sym none))
 
-met : (test : Bool) (fault : Fault) → unless test fault ≡ None → test ≡ true
+pub met : (test : Bool) (fault : Fault) → unless test fault ≡ None → test ≡ true
 met true fault none = refl
 met false fault none = absurd (none-some fault (sym none))
 
-new_name : (test : Bool) (fault : Fault) → unless (not test) fault ≡ None → test ≡ false
+pub new_name : (test : Bool) (fault : Fault) → unless (not test) fault ≡ None → test ≡ false
 new_name test fault none = not-true test (met (not test) fault none)
 
 -- none of the demands has a fault
-abbrev AreMet : World → List Demand → Type 0
+abbrev pub AreMet : World → List Demand → Type 0
 AreMet world [] = Unit {0}
 AreMet world (d ∷ ds) = (breach world d ≡ None) × AreMet world ds
 
@@ -70,7 +70,7 @@ all_met world (d ∷ ds) none =
     let parts = or_none (breach world d) (first_of (map (breach world) ds)) none in
     (parts.0, all_met world ds parts.1)
 
-demands_met : (world : World) (command : Command) → refusal_of world command ≡ None
+pub demands_met : (world : World) (command : Command) → refusal_of world command ≡ None
     → AreMet world (demands command)
 demands_met world command none =
     all_met world (demands command)

@@ -98,7 +98,7 @@ unguard_kept w guard ok = record {
 
 -- ---- snapshots
 
-cons_cases : {X : Type 0} (y : X) (ys : List X) (x : X) → Contains (y ∷ ys) x
+pub cons_cases : {X : Type 0} (y : X) (ys : List X) (x : X) → Contains (y ∷ ys) x
     → (y ≡ x) ⊎ Contains ys x
 cons_cases {X} y ys x at = elim (Contains-append_cases (y ∷ []) ys x at) [
   | inl first ↦ elim (Contains-push_cases [] y x first) [
@@ -109,7 +109,7 @@ cons_cases {X} y ys x at = elim (Contains-append_cases (y ∷ []) ys x at) [
 ]
 
 -- stamps that fall stand once each
-stamps_below : (bound : ℕ) (places : List Place) → digraph.FallBelow bound places
+pub stamps_below : (bound : ℕ) (places : List Place) → digraph.FallBelow bound places
     → All (λ p. p.1 < bound) places
 stamps_below bound [] fall = All-nil (λ (p : Place). p.1 < bound)
 stamps_below bound (p ∷ places) fall =
@@ -199,8 +199,9 @@ snap_kept w snapshot ok new =
               | inl too ↦ ok.copies_agree copy other before too
               | inr same ↦ subst (λ c. StampsAgree copy.by_source c.by_source
                   × StampsAgree copy.by_target c.by_target) same (
-                  turned_round g.by_source copy.by_source (old copy before).sources_agree,
-                  turned_round g.by_target copy.by_target (old copy before).targets_agree)
+                    turned_round g.by_source copy.by_source (old copy before).sources_agree,
+                    turned_round g.by_target copy.by_target (old copy before).targets_agree,
+                  )
             ]
             | inr here ↦ elim (Contains-push_cases older made other also) [
               | inl too ↦ subst (λ c. StampsAgree c.by_source other.by_source
@@ -255,21 +256,19 @@ stand_push : (older : List Name) (views : List (Named View)) (view : Name) (made
     → StandOnOlder older (with_entry views view made)
 stand_push older [] view made stand (inl at) = (at, tt)
 stand_push older [] view made stand (inr at) = absurd (true≢false (sym at))
-stand_push older (e ∷ es) view made stand (inl at) =
-    (
-      stand.0,
-      stand_push (e.name ∷ older) es view made stand.1
-          (inl (or_right (bytes_eq made.below e.name) (is_among made.below older) at)),
-    )
-stand_push older (e ∷ es) view made stand (inr at) =
-    (
-      stand.0,
-      stand_push (e.name ∷ older) es view made stand.1
-          (elim (or_cases (bytes_eq made.below e.name) (is_among made.below (names es)) at) [
-            | inl same ↦ inl (or_left (bytes_eq made.below e.name) (is_among made.below older) same)
-            | inr later ↦ inr later
-          ]),
-    )
+stand_push older (e ∷ es) view made stand (inl at) = (
+  stand.0,
+  stand_push (e.name ∷ older) es view made stand.1
+      (inl (or_right (bytes_eq made.below e.name) (is_among made.below older) at)),
+)
+stand_push older (e ∷ es) view made stand (inr at) = (
+  stand.0,
+  stand_push (e.name ∷ older) es view made stand.1
+      (elim (or_cases (bytes_eq made.below e.name) (is_among made.below (names es)) at) [
+        | inl same ↦ inl (or_left (bytes_eq made.below e.name) (is_among made.below older) same)
+        | inr later ↦ inr later
+      ]),
+)
 
 pub view_kept : (w : World) (view below : Name) (layer : LayerWord) → Parts w
     → (is_base below || has_entry w.views below) ≡ true → has_entry w.views view ≡ false

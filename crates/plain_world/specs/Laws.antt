@@ -1,7 +1,8 @@
 -- Laws that each command's proof starts from.
-use Rattle.std.specs.Prelude.{◌≡◌, ℕ, Bool, true, false, List, fold, None, Some}
+use Rattle.std.specs.Prelude.{◌≡◌, ℕ, ◌+◌, ◌^◌, ◌≤◌, Bool, true, false, List, fold, None, Some}
 use Rattle.std.specs.FinMap as fin
 use Rattle.base_items.specs.declared.items.ItemSort.{ItemSort}
+use Rattle.base_items.specs.declared.limits.TheConstants.{MAX_STAMP}
 use Rattle.script_words.specs.declared.commands.Command.{Command}
 use Rattle.script_words.specs.declared.commands.Command.TheVariants as commands
 use Rattle.script_words.specs.declared.commands.GuardWord.{GuardWord}
@@ -55,6 +56,21 @@ abbrev pub OthersKeepWorlds : Type 0
 OthersKeepWorlds = (world later : World) (command : Command) (answer : Answer) → IsWorld world
     → IsValid command → alteration_of world command ≡ None → Step world command answer later
     → IsWorld later
+
+-- whether the command adds a node or an arc, or moves an arc
+abbrev pub is_single : Command → Bool
+is_single (commands.AddNode label) = true
+is_single (commands.AddArc label from to) = true
+is_single (commands.Source arc node) = true
+is_single (commands.Target arc node) = true
+is_single (commands.Turn arc) = true
+is_single _ = false
+
+-- a command that adds an item or moves an arc leaves a valid world valid, where 2^24 stamps are left
+abbrev pub SinglesKeepWorlds : Type 0
+SinglesKeepWorlds = (world later : World) (command : Command) (answer : Answer) → IsWorld world
+    → is_single command ≡ true → world.graph.stamps + 2 ^ 24 ≤ MAX_STAMP
+    → Step world command answer later → IsWorld later
 
 -- ---- one answer
 

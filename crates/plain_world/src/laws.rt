@@ -65,3 +65,9 @@ pub fn answers_tell_worlds()
 pub fn others_keep_worlds()
     ensures { laws.OthersKeepWorlds }
 {}
+
+/// A command that adds an item or moves an arc leaves a valid world valid, where 2^24 stamps are
+/// left.
+pub fn singles_keep_worlds()
+    ensures { laws.SinglesKeepWorlds }
+{}
