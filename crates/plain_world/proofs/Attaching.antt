@@ -314,7 +314,8 @@ module _ (g h : Digraph) (sort : ItemSort) where
 
 -- ---- an item is described
 
-pub whole_with : {X : Type 0} (g : Digraph) (sort : ItemSort) (column : Column X) (id : ℕ) (value : X)
+pub whole_with : {X : Type 0} (g : Digraph) (sort : ItemSort) (column : Column
+    X) (id : ℕ) (value : X)
     → IsLive g sort id → IsWhole g sort column → IsWhole g sort (fin.insert column id value)
 whole_with g sort column id value live whole x = elim (cases_eq x id) [
   | inl same ↦ (

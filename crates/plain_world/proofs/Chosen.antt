@@ -55,7 +55,8 @@ module _ (world : World) (view : Name) where
   flows_alike : (flow other : ℕ → ℤ) → Same arcs flow other
       → flow_lines world view flow ≡ flow_lines world view other
   flows_alike flow other same =
-      let line : ℤ → ℕ → FlowLine = λ x arc. record { arc = name_of_arc world view arc; flow = x } in
+      let line : ℤ → ℕ → FlowLine = λ x arc.
+      record { arc = name_of_arc world view arc; flow = x } in
       picked_alike (λ arc. not (is_zero (flow arc))) (λ arc. not (is_zero (other arc)))
       (λ arc. line (flow arc) arc) (λ arc. line (other arc) arc) arcs
       (λ k below. ap (λ x. not (is_zero x)) (same k below))

@@ -1,6 +1,7 @@
 -- The document of a valid world.
 use Rattle.std.proofs.Common.{◌≡◌, ℕ, suc, ◌<◌, ◌≤◌, Bool, true, false, cond, refl, sym, ◌∙◌, ap}
-use Rattle.std.proofs.Common.{subst, List, [], ◌∷◌, map, filter, length, Option, Some, None, is_some}
+use Rattle.std.proofs.Common.{subst, List, [], ◌∷◌, map, filter, length, Option, Some, None}
+use Rattle.std.proofs.Common.{is_some}
 use Rattle.std.proofs.Common.{All, arith}
 use Rattle.std.specs.Prelude.{unwrap_or, slice_index_or, ◌==◌}
 use Rattle.std.specs.List.{range_with_len}
@@ -168,7 +169,8 @@ nodes_ok world ok =
       labelled = refl;
       wide =
           let columns = columns_of world.nodes in
-          subst (λ ids. All (λ cells. length cells ≡ length columns) (map (cells_of world Node) ids))
+          subst (λ ids.
+          All (λ cells. length cells ≡ length columns) (map (cells_of world Node) ids))
           (sym (ids_are g Node))
           (all_passing (is_told g Node) (cells_of world Node)
           (λ cells. length cells ≡ length columns) (λ id told. wide world Node id)

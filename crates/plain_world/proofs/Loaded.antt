@@ -40,7 +40,8 @@ use Rattle.plain_digraph.proofs.Live.{live_listed, listed_below, live_counted}
 use Rattle.plain_world.specs.Tables.{Name, Named, under, each_changed}
 use Rattle.plain_world.specs.World.{World, Column, Texts, Attribute, Plain}
 use Rattle.plain_world.specs.Views.{base}
-use Rattle.plain_world.specs.Following.{attached_after, guard_after, snapshot_after, attribute_after}
+use Rattle.plain_world.specs.Following.{attached_after, guard_after, snapshot_after}
+use Rattle.plain_world.specs.Following.{attribute_after}
 use Rattle.plain_world.specs.Documents.{label_place, item_label, item_texts, with_row, with_link}
 use Rattle.plain_world.specs.Documents.{with_texts, no_items, opened}
 use Rattle.plain_world.specs.Valid.{IsWorld, IsGuard, IsSnapshot, IsLayer, IsAttribute, CopiesAgree}

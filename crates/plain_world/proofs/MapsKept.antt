@@ -1,5 +1,6 @@
 -- Commands that change the maps of a sort, or a label.
-use Rattle.std.proofs.Common.{◌≡◌, ℕ, ℤ, Bool, true, false, cond, not, refl, sym, ◌∙◌, ap, subst, List, []}
+use Rattle.std.proofs.Common.{◌≡◌, ℕ, ℤ, Bool, true, false, cond, not, refl, sym, ◌∙◌, ap, subst}
+use Rattle.std.proofs.Common.{List, []}
 use Rattle.std.proofs.Common.{◌∷◌, map, Option, None, Some, is_some, All, inl, inr}
 use Rattle.std.specs.Prelude.{option_and_then, ◌||◌}
 use Rattle.std.specs.Option.{option_map_or}
@@ -167,7 +168,8 @@ held_stays g sort old new (Texts column) keeps holds = holds
 held_stays g sort old new (Degrees way) keeps holds = holds
 held_stays g sort old new (Trues map) keeps holds = keeps types.Bools map holds
 
-unread_held : (g : Digraph) (sort : ItemSort) (map : Name) (old new : List (Named Held)) (held : Held)
+unread_held : (g : Digraph) (sort : ItemSort) (map : Name) (old new : List
+    (Named Held)) (held : Held)
     → KeepsOthers map old new → is_index_of map held ≡ false → Holds g sort old held
     → Holds g sort new held
 unread_held g sort map old new (Ints column) keeps apart holds = holds
@@ -202,7 +204,8 @@ map_kept w sort name held ok no_label no_dash new holds =
     let kept = kept_of w sort ok in
     let keeps = pushed_types items.maps name held in
     let P : Named Held → Type 0 = λ e. Holds w.graph sort items.maps e.value in
-    let apart : (other : Name) → bytes_eq name other ≡ false → is_among other (names items.maps) ≡ false
+    let apart : (other : Name) → bytes_eq name other ≡ false
+    → is_among other (names items.maps) ≡ false
     → is_among other (names maps) ≡ false = λ other differs none.
     ap (is_among other) (names_push items.maps name held)
     ∙ (list_any-append (bytes_eq other) (names items.maps) (name ∷ [])
@@ -303,7 +306,8 @@ changed_kept w sort name change ok types_stay values_stay =
     (λ e is. layer_stays w sort maps e.value.layer keeps is) w.views ok.layers_ok)
 
 pub set_kept : (w : World) (sort : ItemSort) (name : Name) (id : ℕ) (text : Name) → Parts w
-    → IsLive w.graph sort id → Parts (with_map_changed w sort name (λ held. written_at held id text))
+    → IsLive w.graph sort id
+    → Parts (with_map_changed w sort name (λ held. written_at held id text))
 set_kept w sort name id text ok is_live =
     changed_kept w sort name (λ held. written_at held id text) ok
     (λ k d within is. written_type _ id text)
@@ -313,7 +317,8 @@ ints_type : (o : Option Held) (held : Held) → o ≡ Some held
     → option_map_or (is_type types.Ints) (option_and_then type_of o) false ≡ true
     → type_of held ≡ Some types.Ints
 ints_type o held at is =
-    by_held held (sym (ap (λ p. option_map_or (is_type types.Ints) (option_and_then type_of p) false) at)
+    by_held held
+    (sym (ap (λ p. option_map_or (is_type types.Ints) (option_and_then type_of p) false) at)
     ∙ is)
   where
     by_held : (held : Held) → option_map_or (is_type types.Ints) (type_of held) false ≡ true

@@ -41,7 +41,8 @@ picked test other_test make other a (suc n) tests makes =
 
 pub picked_alike : {X : Type 0} (test other_test : ℕ → Bool) (make other : ℕ → X) (n : ℕ)
     → Same n test other_test → Same n make other
-    → map make (filter test (range_with_len 0 n)) ≡ map other (filter other_test (range_with_len 0 n))
+    → map make (filter test (range_with_len 0 n))
+    ≡ map other (filter other_test (range_with_len 0 n))
 picked_alike test other_test make other n tests makes =
     picked test other_test make other 0 n (λ k below. tests k (omega (arith, below)))
     (λ k below. makes k (omega (arith, below)))
@@ -88,7 +89,8 @@ cost_alike g cost flow other same =
 
 -- ---- barriers
 
-module _ (g : Numbered) (ends : EndsAreNodes g) (set other : ℕ → Bool) (same : Same g.nodes set other)
+module _ (g : Numbered) (ends : EndsAreNodes g) (set other : ℕ → Bool)
+    (same : Same g.nodes set other)
   where
     leaves_alike : Same g.arcs (leaves g set) (leaves g other)
     leaves_alike arc below =
@@ -107,7 +109,8 @@ module _ (g : Numbered) (ends : EndsAreNodes g) (set other : ℕ → Bool) (same
         → IsBarrier g bounds over_b other supply_b limit_b
         → (supply ≡ supply_b) × (limit ≡ limit_b)
     barrier_alike bounds true true supply limit supply_b limit_b is one two =
-        let out = chosen_sum g.arcs (leaves g set) (leaves g other) (upper_of bounds) leaves_alike in
+        let out = chosen_sum g.arcs (leaves g set) (leaves g other) (upper_of bounds)
+        leaves_alike in
         let in_ = chosen_sum g.arcs (enters g set) (enters g other) bounds.lower enters_alike in (
           one.supply_is ∙ (chosen_sum g.nodes set other bounds.supply same ∙ sym two.supply_is),
           one.limit_is ∙ ((λ i. out i -ℤ in_ i) ∙ sym two.limit_is),

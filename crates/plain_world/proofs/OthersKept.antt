@@ -231,7 +231,8 @@ Takes world None = Unit {0}
 Takes world (Some name) = typed world.arcs.maps types.Ints name ≡ true
 
 takes_ints : (world : World) (view name : Name)
-    → breach world (demand.TakesFlow view name) ≡ None → typed world.arcs.maps types.Ints name ≡ true
+    → breach world (demand.TakesFlow view name) ≡ None
+    → typed world.arcs.maps types.Ints name ≡ true
 takes_ints world view name none =
     (and_parts (has_type world Arc types.Ints name) _ (met _ _ none)).0
 

@@ -124,8 +124,10 @@ module _ (world : World) (view : Name) where
             → flow k ≡ other k
         by_tests go_on true true is also e =
             go_on
-            (same_flow (line flow a) (line other a) (lines flow (a + 1) n) (lines other (a + 1) n) e)
-            (same_rest (line flow a) (line other a) (lines flow (a + 1) n) (lines other (a + 1) n) e)
+            (same_flow (line flow a) (line other a) (lines flow (a + 1) n) (lines other (a + 1) n)
+            e)
+            (same_rest (line flow a) (line other a) (lines flow (a + 1) n) (lines other (a + 1) n)
+            e)
         by_tests go_on false false is also e =
             go_on (not_zero (flow a) is ∙ sym (not_zero (other a) also)) e
         by_tests go_on true false is also e =

@@ -34,7 +34,8 @@ use Rattle.plain_world.specs.Following.{follow, attached_after}
 use Rattle.plain_world.specs.Demands as demand
 use Rattle.plain_world.specs.Demands.{demands}
 use Rattle.plain_world.specs.Altering.{item_at, alteration_of}
-use Rattle.plain_world.specs.Refusals.{breach, refuses, veto_of, law_holds, is_sort, unless, first_of}
+use Rattle.plain_world.specs.Refusals.{breach, refuses, veto_of, law_holds, is_sort, unless}
+use Rattle.plain_world.specs.Refusals.{first_of}
 use Rattle.plain_world.specs.Effects.{after}
 use Rattle.plain_world.specs.Valid.{IsWorld, StampsAgree, IsCopy}
 use Rattle.plain_world.specs.Laws.{SinglesKeepWorlds, is_single}
@@ -154,7 +155,8 @@ laws_after : (w : World) (step : PlainStep) → Parts w → IsSingle step
     → All (λ e. law_holds e.value.kind e.value.limit
     (facts (after_step w.graph step) e.value.sort) ≡ true) w.guards
 laws_after w step ok is none =
-    let test : Named Guard → Bool = λ guard. refuses guard (sort_of step) (after_step w.graph step) in
+    let test : Named Guard → Bool = λ guard.
+    refuses guard (sort_of step) (after_step w.graph step) in
     let all = all_fail test w.guards (none_found (find test w.guards) none) in
     λ k d within.
     law_at w.graph step _ _ _ is (all k d within) (ok.guards_ok k d within).0

@@ -105,7 +105,8 @@ snapshot_quiet : (g : Digraph) (step : PlainStep) → is_refusable step ≡ true
     → (value : Option Copy) → snapshot_after g step value ≡ value
 snapshot_quiet g step can None = refl
 snapshot_quiet g step can (Some copy) =
-    let nodes = takes_quiet (ids_in copy Node) (change_of g step Node) (quiet_change g step Node can)
+    let nodes = takes_quiet (ids_in copy Node) (change_of g step Node)
+    (quiet_change g step Node can)
     in
     let arcs = takes_quiet (ids_in copy Arc) (change_of g step Arc) (quiet_change g step Arc can) in
     λ i. cond (nodes i || arcs i) None (Some copy)
@@ -251,13 +252,15 @@ rest_after w step ok can later agrees laws =
     let guards = guards_stay h change quiet w.guards
     (λ k d within. (laws k d within, (ok.guards_ok k d within).1)) in
     let snapshots = snapshots_stay g step can w.snapshots in
-    let attributes = all_stay (attribute_after change) (attribute_quiet change quiet) w.attributes in
+    let attributes =
+    all_stay (attribute_after change) (attribute_quiet change quiet) w.attributes in
     record {
       guards_ok = guards.0;
       snapshots_ok = subst (λ es. All (λ e. IsSnapshot h e.value) es) (sym snapshots)
           (All-weaker (λ e. IsSnapshot g e.value) (λ e. IsSnapshot h e.value)
           (λ e is. snapshot_stays g step can later agrees e.value is) w.snapshots ok.snapshots_ok);
-      copies_agree = subst (λ es. CopiesAgree (filter_map (λ (e : Named (Option Copy)). e.value) es))
+      copies_agree =
+          subst (λ es. CopiesAgree (filter_map (λ (e : Named (Option Copy)). e.value) es))
           (sym snapshots) ok.copies_agree;
       layers_ok = All-weaker (λ e. LayerOk w.nodes.maps w.arcs.maps e.value.layer)
           (λ e. LayerOk (attached_after (change Node) w.nodes).maps

@@ -6,7 +6,8 @@ use Rattle.std.specs.List.{filter_map, cons_option}
 use Rattle.std.specs.Str.{bytes_eq}
 use Rattle.std.proofs.lemmas.Bool.{or_parts, or_from, or_left, or_right, true≢false}
 use Rattle.std.proofs.lemmas.List.{map-append}
-use Rattle.std.proofs.lemmas.List.Elements.{All-nil, All-cons, All-head, All-tail, All-map, All-weaker}
+use Rattle.std.proofs.lemmas.List.Elements.{All-nil, All-cons, All-head, All-tail, All-map}
+use Rattle.std.proofs.lemmas.List.Elements.{All-weaker}
 use Rattle.std.proofs.lemmas.List.Elements.{Contains-push, Contains-append_left}
 use Rattle.std.proofs.lemmas.List.Elements.{Contains-append_right}
 use Rattle.std.proofs.lemmas.Option.{none-some}
@@ -120,7 +121,8 @@ all_fail test (x ∷ xs) none =
 -- where names differ, each entry is the one of its name
 pub own_entry : {X : Type 0} (table : List (Named X)) (name : Name) → NamesDiffer table
     → All (λ e. is_named name e ≡ true → entry table name ≡ Some e.value) table
-own_entry {X} [] name differ = All-nil (λ (e : Named X). is_named name e ≡ true → entry [] name ≡ Some e.value)
+own_entry {X} [] name differ =
+    All-nil (λ (e : Named X). is_named name e ≡ true → entry [] name ≡ Some e.value)
 own_entry {X} (e ∷ es) name differ =
     let parts = or_parts (is_among e.name (names es)) (has_twice (names es)) differ in
     let P : Named X → Type 0 = λ x. is_named name x ≡ true → entry (e ∷ es) name ≡ Some x.value in
@@ -132,7 +134,8 @@ own_entry {X} (e ∷ es) name differ =
           (All-weaker (λ x. bytes_eq e.name x.name ≡ false) P
           (λ x apart is. absurd (true≢false
           (sym ((bytes_eq-Decides e.name x.name).1 ((bytes_eq-Decides e.name name).0 same
-          ∙ sym ((bytes_eq-Decides x.name name).0 is))) ∙ apart))) es (apart_from es e.name parts.0))
+          ∙ sym ((bytes_eq-Decides x.name name).0 is))) ∙ apart))) es
+          (apart_from es e.name parts.0))
       | false ↦ λ apart.
           let skip : entry (e ∷ es) name ≡ entry es name = ap (λ b. option_map
           (λ (e : Named X). e.value) (cond b (Some e) (find (is_named name) es))) apart in
@@ -197,7 +200,8 @@ pub same_before : {X : Type 0} (table : List (Named X)) (name : Name) (x : X) (o
 same_before [] name x other v is = absurd (none-some v is)
 same_before {X} (e ∷ es) name x other v is =
     let value : Option (Named X) → Option X = option_map (λ (e : Named X). e.value) in
-    elim (bytes_eq e.name other) as (λ b. value (cond b (Some e) (find (is_named other) es)) ≡ Some v
+    elim (bytes_eq e.name other) as (λ b. value (cond b (Some e) (find (is_named other) es))
+    ≡ Some v
     → value (cond b (Some e) (find (is_named other) (with_entry es name x))) ≡ Some v) [
       | true ↦ λ found. found
       | false ↦ λ found. same_before es name x other v found

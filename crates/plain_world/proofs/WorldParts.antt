@@ -46,14 +46,16 @@ pub record Parts (w : World) : Type 0 where
   pub views_differ : NamesDiffer w.views
   pub attributes_differ : NamesDiffer w.attributes
 
-layer_here : (w : World) (layer : LayerWord) → IsLayer w layer → LayerOk w.nodes.maps w.arcs.maps layer
+layer_here : (w : World) (layer : LayerWord) → IsLayer w layer
+    → LayerOk w.nodes.maps w.arcs.maps layer
 layer_here w (words.Sub nodes arcs) is = is
 layer_here w (words.Residual cap flow) is = is
 layer_here w words.Reverse is = tt
 layer_here w words.Undirect is = tt
 layer_here w words.Split is = tt
 
-layer_there : (w : World) (layer : LayerWord) → LayerOk w.nodes.maps w.arcs.maps layer → IsLayer w layer
+layer_there : (w : World) (layer : LayerWord) → LayerOk w.nodes.maps w.arcs.maps layer
+    → IsLayer w layer
 layer_there w (words.Sub nodes arcs) is = is
 layer_there w (words.Residual cap flow) is = is
 layer_there w words.Reverse is = tt

@@ -66,7 +66,8 @@ is_single (commands.Target arc node) = true
 is_single (commands.Turn arc) = true
 is_single _ = false
 
--- a command that adds an item or moves an arc leaves a valid world valid, where 2^24 stamps are left
+-- a command that adds an item or moves an arc leaves a valid world valid, where 2^24 stamps are
+-- left
 abbrev pub SinglesKeepWorlds : Type 0
 SinglesKeepWorlds = (world later : World) (command : Command) (answer : Answer) → IsWorld world
     → is_single command ≡ true → world.graph.stamps + 2 ^ 24 ≤ MAX_STAMP
