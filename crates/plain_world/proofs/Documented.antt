@@ -3,7 +3,7 @@ use Rattle.std.proofs.Common.{◌≡◌, ℕ, suc, ◌<◌, ◌≤◌, Bool, tru
 use Rattle.std.proofs.Common.{subst, List, [], ◌∷◌, map, filter, length, Option, Some, None}
 use Rattle.std.proofs.Common.{is_some}
 use Rattle.std.proofs.Common.{All, arith}
-use Rattle.std.specs.Prelude.{unwrap_or, slice_index_or, ◌==◌}
+use Rattle.std.specs.Prelude.{unwrap_or, ◌==◌}
 use Rattle.std.specs.List.{range_with_len}
 use Rattle.std.specs.FinMap as fin
 use Rattle.std.proofs.lemmas.Bool.{or_from, lt-ltb}
@@ -13,7 +13,8 @@ use Rattle.base_items.specs.declared.items.ItemSort.TheVariants.{Node, Arc}
 use Rattle.base_items.specs.declared.limits.TheConstants.{MAX_NODES, MAX_ARCS}
 use Rattle.token_text.specs.Names.{is_among, has_twice}
 use Rattle.lgf_file.specs.Rows.{Cells}
-use Rattle.lgf_file.specs.Documents.{label, dash, label_place, label_in, labels_of, node_labels}
+use Rattle.lgf_file.specs.Documents.{label, dash, label_place, label_in, cell_at, labels_of}
+use Rattle.lgf_file.specs.Documents.{node_labels}
 use Rattle.lgf_file.specs.Documents.{AreColumns, IsTable, IsLink, AreArcs}
 use Rattle.plain_digraph.specs.Lists.{has}
 use Rattle.plain_digraph.specs.Digraph.{Digraph}
@@ -102,15 +103,13 @@ few g sort limit valid below =
 
 -- ---- labels
 
-label_first : (columns : Cells) → label_place (label ∷ columns) ≡ 0
+label_first : (columns : Cells) → label_place (label ∷ columns) ≡ Some 0
 label_first columns =
-    ap (λ b. unwrap_or (cond b (Some 0) None) (suc (length columns)))
-    (lt-ltb 0 (suc (length columns)) (omega arith))
+    ap (λ b. cond b (Some 0) None) (lt-ltb 0 (suc (length columns)) (omega arith))
 
 label_there : (columns cells : Cells) (name : Name)
     → label_in (label ∷ columns) (name ∷ cells) ≡ name
-label_there columns cells name =
-    ap (λ place. slice_index_or (name ∷ cells) place []) (label_first columns)
+label_there columns cells name = ap (λ place. cell_at place (name ∷ cells)) (label_first columns)
 
 labels_are : (world : World) (sort : ItemSort) (ids : List ℕ)
     → labels_of (columns_of (attached world sort)) (map (cells_of world sort) ids)

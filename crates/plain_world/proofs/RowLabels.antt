@@ -1,7 +1,7 @@
 -- The labels that rows get, and that these differ; the names of the maps that columns become.
 use Rattle.std.proofs.Common.{◌≡◌, ℕ, suc, ◌+◌, ◌<◌, true, false, List, [], ◌∷◌, ◌++◌, length, take}
 use Rattle.std.proofs.Common.{drop, drop-cons, Option, Some, None, refl, sym, ap, ◌∙◌, arith}
-use Rattle.std.specs.Prelude.{◌^◌, unwrap_or, slice_index_or}
+use Rattle.std.specs.Prelude.{◌^◌, slice_index_or}
 use Rattle.std.specs.Str.{bytes_eq}
 use Rattle.std.specs.Fmt.{decimal}
 use Rattle.std.proofs.lemmas.Fmt.{decimal_injective}
@@ -12,7 +12,7 @@ use Rattle.std.proofs.lemmas.List.Quantifiers.{position-Some}
 use Rattle.std.proofs.lemmas.Slice.Eq.{bytes_eq-Decides}
 use Rattle.token_text.specs.Names.{is_among, has_twice}
 use Rattle.lgf_file.specs.Rows.{Cells}
-use Rattle.lgf_file.specs.Documents.{label, dash, labels_of, AreColumns}
+use Rattle.lgf_file.specs.Documents.{label, dash, labels_of, cell_at, AreColumns}
 use Rattle.lgf_file.specs.Documents as document
 use Rattle.lgf_file.proofs.NameLists.{twice_front}
 use Rattle.lgf_file.proofs.ArcLabels.{none_labelled}
@@ -49,11 +49,11 @@ decimals_differ id (cells ∷ rows) small =
 
 -- labels in a column are those of its rows
 column_labels : (columns : Cells) (place id : ℕ) (rows : List Cells)
-    → place ≡ document.label_place columns
+    → Some place ≡ document.label_place columns
     → row_labels (Some place) id rows ≡ labels_of columns rows
 column_labels columns place id [] is = refl
 column_labels columns place id (cells ∷ rows) is =
-    λ i. slice_index_or cells (is i) [] ∷ column_labels columns place (suc id) rows is i
+    λ i. cell_at (is i) cells ∷ column_labels columns place (suc id) rows is i
 
 -- where there is a column of labels, it is one of the columns
 column_among : (columns : Cells) (place : ℕ) → label_place columns ≡ Some place
@@ -70,9 +70,7 @@ pub labels_apart : (columns : Cells) (rows : List Cells) (place : Option ℕ)
     → has_twice (row_labels place 0 rows) ≡ false
 labels_apart columns rows None is differ small = decimals_differ 0 rows (omega (arith, small))
 labels_apart columns rows (Some place) is differ small =
-    let own : place ≡ document.label_place columns =
-    sym (ap (λ found. unwrap_or found (length columns)) is) in
-    ap has_twice (column_labels columns place 0 rows own) ∙ differ (column_among columns place is)
+    ap has_twice (column_labels columns place 0 rows (sym is)) ∙ differ (column_among columns place is)
 
 -- ---- columns
 
@@ -119,7 +117,7 @@ pub label_in_front : (columns : Cells) (place : Option ℕ) → AreColumns colum
     → label_place columns ≡ place → AreColumns (label ∷ item_texts place columns)
 label_in_front columns None are is = record {
   differ = or_from (is_among label columns) (has_twice columns)
-      (none_labelled columns (ap (λ found. unwrap_or found (length columns)) is)) are.differ;
+      (none_labelled columns is) are.differ;
   no_dash = or_from (bytes_eq dash label) (is_among dash columns) refl are.no_dash;
 }
 label_in_front columns (Some place) are is =
