@@ -70,7 +70,8 @@ pub labels_apart : (columns : Cells) (rows : List Cells) (place : Option ℕ)
     → has_twice (row_labels place 0 rows) ≡ false
 labels_apart columns rows None is differ small = decimals_differ 0 rows (omega (arith, small))
 labels_apart columns rows (Some place) is differ small =
-    ap has_twice (column_labels columns place 0 rows (sym is)) ∙ differ (column_among columns place is)
+    ap has_twice (column_labels columns place 0 rows (sym is))
+    ∙ differ (column_among columns place is)
 
 -- ---- columns
 
