@@ -6,6 +6,8 @@ mod alterations;
 #[cfg(test)]
 mod chains;
 #[cfg(test)]
+mod changes;
+#[cfg(test)]
 mod digraph_limits;
 #[cfg(test)]
 mod digraph_tables;
@@ -25,6 +27,10 @@ mod maps;
 mod modest;
 #[cfg(test)]
 mod moody;
+#[cfg(test)]
+mod moody_rows;
+#[cfg(test)]
+mod refusals;
 mod steps;
 mod undone;
 
