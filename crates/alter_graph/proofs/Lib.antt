@@ -26,3 +26,8 @@ pub mod Splitting
 pub mod Reseated
 pub mod Attached
 pub mod Snapping
+pub mod KeptWalk
+pub mod Kept
+pub mod Replaced
+pub mod Added
+pub mod Reverted

@@ -51,7 +51,7 @@ sound_at key (s ∷ ss) h =
     [ true ↦ h.0.0.held | false ↦ r ]
 
 -- an addition or a move changes each record
-heard_held : (key : ℕ) (f : Seen → Seen) (g : Held → Held)
+pub heard_held : (key : ℕ) (f : Seen → Seen) (g : Held → Held)
     → ((s : Seen) → (f s).held ≡ g s.held) → g Nothing ≡ Nothing → (ss : List SeatSeen)
     → held_at key (seats_heard f ss) ≡ g (held_at key ss)
 heard_held key f g each none [] = sym none
