@@ -8,10 +8,19 @@ use Rattle.observe_core.specs.Items.{rises_from}
 use Rattle.observe_core.specs.Held.{Held, Nothing, Values, Degree, Half, Kept, Ties}
 use Rattle.observe_core.proofs.ItemLemmas.{and_left, and_right}
 use Rattle.fact_table.specs.Table.{from_id, next_after}
-use Rattle.alter_graph.specs.Ahead.{ahead_of, all_after}
 use Rattle.plain_digraph.specs.Lists.{first}
 use Rattle.snap_shots.specs.HalfViews.{next_number, from_number}
 use Rattle.alter_graph.specs.Snaps.{IsHalf, kept_of, added_of}
+
+-- the facts of a list from an id on
+abbrev pub ahead_of : ℕ → List Fact → List Fact
+ahead_of low [] = []
+ahead_of low (f ∷ fs) = if nat_le low f.id then f ∷ fs else ahead_of low fs
+
+-- those after an id, or all
+abbrev pub all_after : Option ℕ → List Fact → List Fact
+all_after None facts = ahead_of 0 facts
+all_after (Some i) facts = ahead_of (i + 1) facts
 
 all_ahead : (low n : ℕ) (fs : List Fact) → low < n + 1 → IsTrue (rises_from fact_id n fs)
     → ahead_of low fs ≡ fs

@@ -12,6 +12,5 @@ pub mod Links
 pub mod Contraction
 pub mod Attaching
 pub mod Snapping
-pub mod Ahead
 pub mod Restoring
 pub mod Lending

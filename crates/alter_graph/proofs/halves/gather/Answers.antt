@@ -4,9 +4,8 @@ use Rattle.std.proofs.lemmas.List.{append-nil}
 use Rattle.plain_digraph.specs.PlainSteps.{PlaceBack}
 use Rattle.snap_shots.specs.HalfViews.{kept_facts}
 use Rattle.alter_graph.specs.declared.steps.Step.TheVariants.{Place}
-use Rattle.alter_graph.specs.Ahead.{all_after}
 use Rattle.alter_graph.specs.Steps.{plain_steps}
-use Rattle.alter_graph.proofs.KeptWalk.{all_first, one_after, none_after}
+use Rattle.alter_graph.proofs.KeptWalk.{all_after, all_first, one_after, none_after}
 use Rattle.alter_graph.proofs.Planned.{plain-append}
 use Rattle.alter_graph.proofs.halves.gather.Goals as goal
 

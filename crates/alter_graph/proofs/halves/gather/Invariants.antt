@@ -1,8 +1,8 @@
 use Rattle.std.proofs.Common.{◌≡◌, ◌++◌, length, map}
 use Rattle.plain_digraph.specs.PlainSteps.{PlaceBack}
 use Rattle.snap_shots.specs.HalfViews.{kept_facts}
-use Rattle.alter_graph.specs.Ahead.{all_after}
 use Rattle.alter_graph.specs.Steps.{plain_steps}
+use Rattle.alter_graph.proofs.KeptWalk.{all_after}
 use Rattle.alter_graph.proofs.halves.gather.Given as goal
 
 abbrev pub invariant-facts : goal.invariant-facts
