@@ -227,7 +227,7 @@ alike_after change (e ∷ es) = (refl, type_stays change e.value, alike_after ch
 some_label : {Y : Type 0} (o : Option ℕ) (id : ℕ) → o ≡ None → o ≡ Some id → Y
 some_label o id none some = absurd (none-some id (sym none ∙ some))
 
-label_left : (labels : Column Name) (id x : ℕ) (name : Name)
+pub label_left : (labels : Column Name) (id x : ℕ) (name : Name)
     → fin.get (fin.remove labels id) x ≡ Some name → fin.get labels x ≡ Some name
 label_left labels id x name is = elim (cases_eq x id) [
   | inl same ↦ absurd (none-some name

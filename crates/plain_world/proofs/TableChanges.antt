@@ -15,7 +15,7 @@ use Rattle.std.proofs.lemmas.Slice.Eq.{bytes_eq-Decides}
 use Rattle.token_text.specs.Names.{is_among, has_twice}
 use Rattle.lgf_file.proofs.NameLists.{twice_push, apart_back}
 use Rattle.plain_world.specs.Tables.{Name, Named, under, is_named, entry, has_entry, with_entry}
-use Rattle.plain_world.specs.Tables.{with_change, without_entry}
+use Rattle.plain_world.specs.Tables.{with_change, without_entry, each_changed}
 use Rattle.plain_world.specs.Valid.{NamesDiffer}
 use Rattle.plain_world.proofs.Filtered.{names, differ_filter}
 
@@ -106,6 +106,51 @@ all_change P Q table name change all changed kept =
       | true ↦ λ is. changed e is holds
       | false ↦ λ is. kept e is holds
     ] refl) table all)
+
+-- ---- tables of which some entries go
+
+pub among_changed : {X : Type 0} (change : X → Option X) (name : Name) (es : List (Named X))
+    → is_among name (names es) ≡ false → is_among name (names (each_changed change es)) ≡ false
+among_changed change name [] none = refl
+among_changed change name (e ∷ es) none =
+    let parts = or_parts (bytes_eq name e.name) (is_among name (names es)) none in
+    let left = each_changed change es in
+    let rest = among_changed change name es parts.1 in
+    elim (change e.value) as (λ o. is_among name
+    (names (cons_option (option_map (under e.name) o) left)) ≡ false) [
+      | None ↦ rest
+      | Some x ↦ or_from (bytes_eq name e.name) (is_among name (names left)) parts.0 rest
+    ]
+
+pub differ_changed : {X : Type 0} (change : X → Option X) (table : List (Named X))
+    → NamesDiffer table → NamesDiffer (each_changed change table)
+differ_changed change [] differ = refl
+differ_changed change (e ∷ es) differ =
+    let parts = or_parts (is_among e.name (names es)) (has_twice (names es)) differ in
+    let left = each_changed change es in
+    let rest = differ_changed change es parts.1 in
+    elim (change e.value) as (λ o. has_twice
+    (names (cons_option (option_map (under e.name) o) left)) ≡ false) [
+      | None ↦ rest
+      | Some x ↦
+          or_from (is_among e.name (names left)) (has_twice (names left))
+          (among_changed change e.name es parts.0) rest
+    ]
+
+-- what holds of those that stay
+pub all_changed : {X : Type 0} (P : Named X → Type 0) (Q : Named X → Type 0) (change : X → Option X)
+    (table : List (Named X)) → All P table
+    → ((e : Named X) (x : X) → P e → change e.value ≡ Some x → Q (under e.name x))
+    → All Q (each_changed change table)
+all_changed P Q change [] all holds = All-nil Q
+all_changed P Q change (e ∷ es) all holds =
+    let left = each_changed change es in
+    let rest = all_changed P Q change es (All-tail P e es all) holds in
+    elim (change e.value) as (λ o. change e.value ≡ o
+    → All Q (cons_option (option_map (under e.name) o) left)) [
+      | None ↦ λ is. rest
+      | Some x ↦ λ is. All-cons Q (under e.name x) left (holds e x (All-head P e es all) is) rest
+    ] refl
 
 -- where none is found, all fail the test
 pub all_fail : {X : Type 0} (test : X → Bool) (xs : List X) → find test xs ≡ None

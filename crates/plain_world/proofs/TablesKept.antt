@@ -1,5 +1,5 @@
 -- Commands that change a table of guards, snapshots, views or attributes, or a label.
-use Rattle.std.proofs.Common.{◌≡◌, ℕ, ◌<◌, Bool, true, false, cond, not, refl, sym, ◌∙◌, ap, subst}
+use Rattle.std.proofs.Common.{◌≡◌, ℕ, Bool, true, false, cond, not, refl, sym, ◌∙◌, ap, subst}
 use Rattle.std.proofs.Common.{List, [], ◌∷◌, ◌++◌, Option, None, Some, is_some, All, Contains}
 use Rattle.std.proofs.Common.{inl, inr, arith}
 use Rattle.std.specs.Prelude.{find, unwrap_or, option_and_then, ◌||◌, ◌==◌, ◌⊎◌}
@@ -7,9 +7,9 @@ use Rattle.std.specs.List.{filter_map, cons_option}
 use Rattle.std.specs.Str.{bytes_eq}
 use Rattle.std.proofs.lemmas.Bool.{true≢false, or_cases, or_left, or_right, eq-eqb}
 use Rattle.std.proofs.lemmas.List.Elements.{All-push, All-head, All-tail, All-contains}
-use Rattle.std.proofs.lemmas.List.Elements.{Contains-push_cases, Contains-append_cases, All-nil}
+use Rattle.std.proofs.lemmas.List.Elements.{Contains-push_cases, All-nil}
 use Rattle.std.proofs.lemmas.List.Elements.{All-cons}
-use Rattle.std.proofs.lemmas.List.Elements.{All-weaker, filter_map-append}
+use Rattle.std.proofs.lemmas.List.Elements.{filter_map-append}
 use Rattle.std.proofs.lemmas.Slice.Eq.{bytes_eq-Decides}
 use Rattle.std.proofs.lemmas.Option.{none-some}
 use Rattle.base_items.specs.declared.items.ItemSort.{ItemSort}
@@ -23,7 +23,7 @@ use Rattle.script_words.specs.declared.commands.LayerWord.{LayerWord}
 use Rattle.script_words.specs.declared.commands.Command.TheVariants as commands
 use Rattle.script_words.specs.Valid as script
 use Rattle.report_text.specs.declared.faults.Fault.{Fault}
-use Rattle.plain_digraph.specs.Digraph.{Digraph, Place}
+use Rattle.plain_digraph.specs.Digraph.{Digraph}
 use Rattle.plain_digraph.specs.Items.{IsLive, facts}
 use Rattle.plain_digraph.specs.Copies.{Copy, copy_of}
 use Rattle.plain_digraph.specs.Valid as digraph
@@ -39,6 +39,7 @@ use Rattle.plain_world.specs.Valid.{IsCopy, IsSnapshot, CopiesAgree, StampsAgree
 use Rattle.plain_world.specs.Valid.{StandOnOlder, IsAttribute, HasLeft}
 use Rattle.plain_world.proofs.TableChanges.{differ_push, differ_without, differ_change, all_filter}
 use Rattle.plain_world.proofs.TableChanges.{all_change, all_fail, own_entry, is_in_names, part_has}
+use Rattle.plain_world.proofs.CopyStamps.{copy_ok, copy_agrees, own_agrees, turned_round}
 use Rattle.plain_world.proofs.WorldParts.{Parts, GuardOk, LayerOk}
 use Rattle.plain_world.proofs.Filtered.{names}
 
@@ -99,62 +100,6 @@ unguard_kept w guard ok = record {
 
 -- ---- snapshots
 
-pub cons_cases : {X : Type 0} (y : X) (ys : List X) (x : X) → Contains (y ∷ ys) x
-    → (y ≡ x) ⊎ Contains ys x
-cons_cases {X} y ys x at = elim (Contains-append_cases (y ∷ []) ys x at) [
-  | inl first ↦ elim (Contains-push_cases [] y x first) [
-    | inl none ↦ absurd (omega (arith, none.1))
-    | inr same ↦ inl same
-  ]
-  | inr later ↦ inr later
-]
-
--- stamps that fall stand once each
-pub stamps_below : (bound : ℕ) (places : List Place) → digraph.FallBelow bound places
-    → All (λ p. p.1 < bound) places
-stamps_below bound [] fall = All-nil (λ (p : Place). p.1 < bound)
-stamps_below bound (p ∷ places) fall =
-    let head = fall.0 in
-    All-cons (λ p. p.1 < bound) p places head
-    (All-weaker (λ q. q.1 < p.1) (λ q. q.1 < bound) (λ q below. omega (arith, below, head)) places
-    (stamps_below p.1 places fall.1))
-
-stamps_once : (bound : ℕ) (places : List Place) → digraph.FallBelow bound places
-    → StampsAgree places places
-stamps_once bound [] fall id other stamp at also = absurd (omega (arith, at.1))
-stamps_once bound (p ∷ places) fall id other stamp at also =
-    let below = stamps_below p.1 places fall.1 in
-    let later : (x : ℕ) → Contains places (x, stamp) → stamp < p.1 = λ x listed.
-    All-contains (λ q. q.1 < p.1) places (x, stamp) below listed in
-    elim (cons_cases p places (id, stamp) at) [
-      | inl here ↦ elim (cons_cases p places (other, stamp) also) [
-        | inl there ↦ sym (ap (λ q. q.0) here) ∙ ap (λ q. q.0) there
-        | inr behind ↦
-            let less = later other behind in
-            let same = ap (λ q. q.1) here in
-            absurd (omega (arith, less, same))
-      ]
-      | inr behind ↦ elim (cons_cases p places (other, stamp) also) [
-        | inl there ↦
-            let less = later id behind in
-            let same = ap (λ q. q.1) there in
-            absurd (omega (arith, less, same))
-        | inr also_behind ↦ stamps_once p.1 places fall.1 id other stamp behind also_behind
-      ]
-    ]
-
-copy_ok : (g : Digraph) → digraph.IsValid g → IsCopy g (copy_of g)
-copy_ok g valid = record {
-  nodes_live = λ id is. is;
-  arcs_live = λ id is. is;
-  ends_live = valid.ends_live;
-  nodes_fall = valid.nodes_fall;
-  sources_fall = valid.sources_fall;
-  targets_fall = valid.targets_fall;
-  sources_agree = stamps_once g.stamps g.by_source valid.sources_fall;
-  targets_agree = stamps_once g.stamps g.by_target valid.targets_fall;
-}
-
 abbrev value_of : Named (Option Copy) → Option Copy
 value_of e = e.value
 
@@ -170,9 +115,6 @@ copies_ok g (e ∷ es) all =
         → All (IsCopy g) (cons_option o (filter_map value_of es))
     by_value None is rest = rest
     by_value (Some copy) is rest = All-cons (IsCopy g) copy (filter_map value_of es) is rest
-
-turned_round : (places others : List Place) → StampsAgree places others → StampsAgree others places
-turned_round places others agree id other stamp at also = sym (agree other id stamp also at)
 
 pub snap_kept : (w : World) (snapshot : Name) → Parts w → has_entry w.snapshots snapshot ≡ false
     → Parts (after_command w (commands.Snap snapshot))
@@ -200,19 +142,23 @@ snap_kept w snapshot ok new =
               | inl too ↦ ok.copies_agree copy other before too
               | inr same ↦ subst (λ c. StampsAgree copy.by_source c.by_source
                   × StampsAgree copy.by_target c.by_target) same (
-                    turned_round g.by_source copy.by_source (old copy before).sources_agree,
-                    turned_round g.by_target copy.by_target (old copy before).targets_agree,
+                    (copy_agrees g copy ok.graph_ok (old copy before)).0,
+                    (copy_agrees g copy ok.graph_ok (old copy before)).1,
                   )
             ]
             | inr here ↦ elim (Contains-push_cases older made other also) [
               | inl too ↦ subst (λ c. StampsAgree c.by_source other.by_source
-                  × StampsAgree c.by_target other.by_target) here
-                  ((old other too).sources_agree, (old other too).targets_agree)
+                  × StampsAgree c.by_target other.by_target) here (
+                    turned_round other.by_source g.by_source
+                        (copy_agrees g other ok.graph_ok (old other too)).0,
+                    turned_round other.by_target g.by_target
+                        (copy_agrees g other ok.graph_ok (old other too)).1,
+                  )
               | inr same ↦ subst (λ c. StampsAgree c.by_source other.by_source
                   × StampsAgree c.by_target other.by_target) here
                   (subst (λ c. StampsAgree made.by_source c.by_source
                   × StampsAgree made.by_target c.by_target) same
-                  (is_copy.sources_agree, is_copy.targets_agree))
+                  (own_agrees g ok.graph_ok))
             ]
           ]);
       views_stand = ok.views_stand;

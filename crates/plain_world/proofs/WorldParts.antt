@@ -1,5 +1,5 @@
 -- What holds of a world, part by part: each part is said by the fields that it is about.
-use Rattle.std.proofs.Common.{◌≡◌, true, List, [], ◌∷◌, Option, None, All}
+use Rattle.std.proofs.Common.{◌≡◌, ℕ, true, List, [], ◌∷◌, Option, None, All}
 use Rattle.std.specs.List.{filter_map}
 use Rattle.std.proofs.lemmas.List.Elements.{All-weaker}
 use Rattle.base_items.specs.declared.items.ItemSort.TheVariants.{Node, Arc}
@@ -31,10 +31,11 @@ LayerOk nodes arcs words.Reverse = Unit {0}
 LayerOk nodes arcs words.Undirect = Unit {0}
 LayerOk nodes arcs words.Split = Unit {0}
 
-pub record Parts (w : World) : Type 0 where
+-- what holds of a world amid an alteration, where one node and one arc at most have no label yet
+pub record Amid (node arc : Option ℕ) (w : World) : Type 0 where
   pub graph_ok : digraph.IsValid w.graph
-  pub nodes_ok : IsKept w.graph Node None w.nodes
-  pub arcs_ok : IsKept w.graph Arc None w.arcs
+  pub nodes_ok : IsKept w.graph Node node w.nodes
+  pub arcs_ok : IsKept w.graph Arc arc w.arcs
   pub guards_ok : All (λ e. GuardOk w.graph e.value) w.guards
   pub snapshots_ok : All (λ e. IsSnapshot w.graph e.value) w.snapshots
   pub copies_agree : CopiesAgree (filter_map (λ (e : Named (Option Copy)). e.value) w.snapshots)
@@ -45,6 +46,10 @@ pub record Parts (w : World) : Type 0 where
   pub snapshots_differ : NamesDiffer w.snapshots
   pub views_differ : NamesDiffer w.views
   pub attributes_differ : NamesDiffer w.attributes
+
+-- what holds of a world in which all items have labels
+abbrev pub Parts : World → Type 0
+Parts w = Amid None None w
 
 layer_here : (w : World) (layer : LayerWord) → IsLayer w layer
     → LayerOk w.nodes.maps w.arcs.maps layer

@@ -1,8 +1,10 @@
 -- Laws that each command's proof starts from.
-use Rattle.std.specs.Prelude.{◌≡◌, ℕ, ◌+◌, ◌^◌, ◌≤◌, Bool, true, false, List, fold, None, Some}
+use Rattle.std.specs.Prelude.{◌≡◌, ℕ, ◌+◌, ◌*◌, ◌≤◌, Bool, true, false, List, length, fold, None}
+use Rattle.std.specs.Prelude.{Some}
+use Rattle.std.specs.Option.{option_map_or}
 use Rattle.std.specs.FinMap as fin
 use Rattle.base_items.specs.declared.items.ItemSort.{ItemSort}
-use Rattle.base_items.specs.declared.limits.TheConstants.{MAX_STAMP}
+use Rattle.base_items.specs.declared.limits.TheConstants.{MAX_ARCS, MAX_STAMP}
 use Rattle.script_words.specs.declared.commands.Command.{Command}
 use Rattle.script_words.specs.declared.commands.Command.TheVariants as commands
 use Rattle.script_words.specs.declared.commands.GuardWord.{GuardWord}
@@ -11,6 +13,7 @@ use Rattle.report_text.specs.declared.faults.Fault.{Fault}
 use Rattle.lgf_file.specs.Documents.{IsDoc}
 use Rattle.lgf_file.specs.declared.documents.Doc.{Doc}
 use Rattle.plain_digraph.specs.PlainSteps.{PlainStep, after_steps}
+use Rattle.plain_digraph.specs.Alterations.{refusable_steps}
 use Rattle.plain_world.specs.declared.answers.Answer.{Answer}
 use Rattle.plain_world.specs.declared.answers.Answer.TheVariants.{Refused}
 use Rattle.plain_world.specs.Tables.{Name}
@@ -51,26 +54,21 @@ LoadedWorldsAreValid = (doc : Doc) (pool : List GuardWord) → IsDoc doc → IsW
 
 -- ---- steps
 
--- a valid command that asks for no alteration leaves a valid world valid
-abbrev pub OthersKeepWorlds : Type 0
-OthersKeepWorlds = (world later : World) (command : Command) (answer : Answer) → IsWorld world
-    → IsValid command → alteration_of world command ≡ None → Step world command answer later
-    → IsWorld later
+-- how many stamps the command takes: one for each refusable step of its alteration
+abbrev pub stamps_taken : World → Command → ℕ
+stamps_taken world command =
+    option_map_or (λ alteration. length (refusable_steps world.graph alteration))
+    (alteration_of world command) 0
 
--- whether the command adds a node or an arc, or moves an arc
-abbrev pub is_single : Command → Bool
-is_single (commands.AddNode label) = true
-is_single (commands.AddArc label from to) = true
-is_single (commands.Source arc node) = true
-is_single (commands.Target arc node) = true
-is_single (commands.Turn arc) = true
-is_single _ = false
+-- a command takes two stamps for each arc that there may be, at most
+abbrev pub FewStampsAreTaken : Type 0
+FewStampsAreTaken = (world : World) (command : Command) → IsWorld world
+    → stamps_taken world command ≤ 2 * MAX_ARCS
 
--- a command that adds an item or moves an arc leaves a valid world valid, where 2^24 stamps are
--- left
-abbrev pub SinglesKeepWorlds : Type 0
-SinglesKeepWorlds = (world later : World) (command : Command) (answer : Answer) → IsWorld world
-    → is_single command ≡ true → world.graph.stamps + 2 ^ 24 ≤ MAX_STAMP
+-- a valid command leaves a valid world valid, where there are the stamps that it takes
+abbrev pub StepsKeepWorlds : Type 0
+StepsKeepWorlds = (world later : World) (command : Command) (answer : Answer) → IsWorld world
+    → IsValid command → world.graph.stamps + stamps_taken world command ≤ MAX_STAMP
     → Step world command answer later → IsWorld later
 
 -- ---- one answer

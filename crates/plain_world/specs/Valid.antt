@@ -13,9 +13,10 @@ use Rattle.script_words.specs.declared.commands.LayerWord.{LayerWord}
 use Rattle.script_words.specs.declared.commands.LayerWord.TheVariants as words
 use Rattle.script_words.specs.declared.commands.MapType.TheVariants as types
 use Rattle.plain_digraph.specs.Digraph.{Digraph, Place}
-use Rattle.plain_digraph.specs.Items.{IsLive, facts}
+use Rattle.plain_digraph.specs.Items.{IsLive, facts, stamp_of}
 use Rattle.plain_digraph.specs.Valid as digraph
-use Rattle.plain_digraph.specs.Copies.{Copy, as_copied}
+use Rattle.plain_digraph.specs.Copies.{Copy, copy_of}
+use Rattle.plain_digraph.specs.RestoreLaws.{Keeps, StampsApart}
 use Rattle.plain_world.specs.Tables.{Name, Named}
 use Rattle.plain_world.specs.World.{World, Column, Held, Ints, Bools, Texts, Degrees, Trues, Guard}
 use Rattle.plain_world.specs.World.{View, Attribute, Plain, Tied, attached}
@@ -61,21 +62,17 @@ pub record IsGuard (world : World) (guard : Guard) : Type 0 where
 
 -- a stamp in both lists belongs to one arc
 abbrev pub StampsAgree : List Place → List Place → Type 0
-StampsAgree places others = (id other stamp : ℕ) → Contains places (id, stamp)
-    → Contains others (other, stamp) → id ≡ other
+StampsAgree places others = (id other stamp : ℕ) → stamp_of places id ≡ Some stamp
+    → stamp_of others other ≡ Some stamp → id ≡ other
 
--- the items of a valid snapshot are live, its lists fall, and their stamps are those of the same
--- arcs as now
+-- a valid snapshot has the copy of a valid digraph, all items of which are live still: its nodes
+-- are as they were, and no other arc has a stamp of one of its arcs
 pub record IsCopy (graph : Digraph) (copy : Copy) : Type 0 where
-  pub nodes_live : (id : ℕ) → IsLive (as_copied copy graph) Node id → IsLive graph Node id
-  pub arcs_live : (id : ℕ) → IsLive (as_copied copy graph) Arc id → IsLive graph Arc id
-  pub ends_live : (arc from to : ℕ) → fin.get copy.ends arc ≡ Some (from, to)
-      → IsLive (as_copied copy graph) Node from × IsLive (as_copied copy graph) Node to
-  pub nodes_fall : digraph.FallBelow graph.stamps copy.nodes
-  pub sources_fall : digraph.FallBelow graph.stamps copy.by_source
-  pub targets_fall : digraph.FallBelow graph.stamps copy.by_target
-  pub sources_agree : StampsAgree graph.by_source copy.by_source
-  pub targets_agree : StampsAgree graph.by_target copy.by_target
+  pub copied : Digraph
+  pub copied_ok : digraph.IsValid copied
+  pub is_copied : copy_of copied ≡ copy
+  pub keeps : Keeps copied graph
+  pub apart : StampsApart copied graph
 
 abbrev pub IsSnapshot : Digraph → Option Copy → Type 0
 IsSnapshot graph None = Unit {0}

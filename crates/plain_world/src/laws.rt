@@ -61,13 +61,13 @@ pub fn answers_tell_worlds()
     ensures { choices.AnswersTellWorlds }
 {}
 
-/// A valid command that asks for no alteration leaves a valid world valid.
-pub fn others_keep_worlds()
-    ensures { laws.OthersKeepWorlds }
+/// A valid command leaves a valid world valid, where there are the stamps that it takes: one for
+/// each step of its alteration that guards may refuse.
+pub fn steps_keep_worlds()
+    ensures { laws.StepsKeepWorlds }
 {}
 
-/// A command that adds an item or moves an arc leaves a valid world valid, where 2^24 stamps are
-/// left.
-pub fn singles_keep_worlds()
-    ensures { laws.SinglesKeepWorlds }
+/// In a valid world a command takes two stamps for each arc that there may be, at most: 2^23.
+pub fn few_stamps_are_taken()
+    ensures { laws.FewStampsAreTaken }
 {}

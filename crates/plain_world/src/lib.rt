@@ -10,7 +10,7 @@ mod laws;
 pub use answers::Answer;
 pub use laws::{
     altered_graphs_follow, answers_are_one, answers_tell_worlds, breaches_are_ranked,
-    choices_tell_answers, demands_are_ordered, documents_are_valid, items_are_named,
-    loaded_worlds_are_valid, others_keep_worlds, refusals_are_one, singles_keep_worlds,
+    choices_tell_answers, demands_are_ordered, documents_are_valid, few_stamps_are_taken,
+    items_are_named, loaded_worlds_are_valid, refusals_are_one, steps_keep_worlds,
     unused_names_are_free,
 };
