@@ -189,7 +189,7 @@ facts_leave snapshots c (fact ∷ facts) agree listed told = (
   facts_leave snapshots c facts agree listed told.1,
 )
 
-restored_of : (w : World) (c : Digraph) → Parts w → digraph.IsValid c → Keeps c w.graph
+pub restored_of : (w : World) (c : Digraph) → Parts w → digraph.IsValid c → Keeps c w.graph
     → StampsApart c w.graph → Contains (copies_in w.snapshots) (copy_of c)
     → w.graph.stamps + length (refusable_steps w.graph (restoring (copy_of c))) ≤ MAX_STAMP
     → Passes w.guards w.graph (refusable_steps w.graph (restoring (copy_of c)))

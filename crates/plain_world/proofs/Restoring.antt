@@ -15,7 +15,7 @@ use Rattle.plain_digraph.specs.Alterations.{unrolled, arcs_out, nodes_out}
 use Rattle.plain_digraph.specs.Valid as digraph
 use Rattle.plain_digraph.specs.RestoreLaws.{Keeps, StampsApart}
 use Rattle.plain_digraph.proofs.Bare.{arcs_are_copied, added_nodes_are_bare}
-use Rattle.plain_digraph.proofs.Changes.{valid_placed}
+use Rattle.plain_digraph.proofs.Changes as changes
 use Rattle.plain_digraph.proofs.CopyKept.{copy_is_kept, copies_leave_stamps}
 use Rattle.plain_digraph.proofs.Kept.{kept_if_not_lost}
 use Rattle.plain_digraph.proofs.MovedCopied.{moved_are_copied}
@@ -42,7 +42,7 @@ places_can (was ∷ facts) c g valid_c valid keeps apart told left =
     let can = copied_can_be_placed c g was valid_c valid keeps apart (omega (arith, left)) told.0 in
     let own = (copy_is_kept c valid_c).1 in (
       can,
-      places_can facts c (place g was) valid_c (valid_placed g was valid can)
+      places_can facts c (place g was) valid_c (changes.valid_placed g was valid can)
           (kept_if_not_lost c g (PlaceBack was) valid_c valid keeps refl)
           (stamps_stay_apart c g (PlaceBack was) valid_c valid apart
           ((copies_leave_stamps c c g was own).0 told.0)) told.1 (omega (arith, left)),
@@ -66,8 +66,8 @@ module _ (c g : Digraph) (valid_c : digraph.IsValid c) (valid : digraph.IsValid 
     abbrev g1 : Digraph
     g1 = after_steps g back
 
-    valid1 : digraph.IsValid g1
-    valid1 = valid_throughout g back valid back_can
+    pub valid_placed : digraph.IsValid g1
+    valid_placed = valid_throughout g back valid back_can
 
     abbrev arcs : List ℕ
     arcs = added (copy_of c) g1 Arc
@@ -75,13 +75,13 @@ module _ (c g : Digraph) (valid_c : digraph.IsValid c) (valid : digraph.IsValid 
     arcs_can : CanSteps g1 (map EraseArc arcs)
     arcs_can =
         arcs_can_go arcs g1 (added_once (copy_of c) g1 Arc)
-        (all_if_each _ arcs (λ id at. (added_live (copy_of c) g1 Arc id valid1 at).0))
+        (all_if_each _ arcs (λ id at. (added_live (copy_of c) g1 Arc id valid_placed at).0))
 
     abbrev g2 : Digraph
     g2 = after_steps g1 (map EraseArc arcs)
 
-    valid2 : digraph.IsValid g2
-    valid2 = valid_throughout g1 (map EraseArc arcs) valid1 arcs_can
+    pub valid_without : digraph.IsValid g2
+    valid_without = valid_throughout g1 (map EraseArc arcs) valid_placed arcs_can
 
     abbrev nodes : List ℕ
     nodes = added (copy_of c) g2 Node
@@ -90,10 +90,10 @@ module _ (c g : Digraph) (valid_c : digraph.IsValid c) (valid : digraph.IsValid 
     nodes_can =
         nodes_can_go nodes g2 (added_once (copy_of c) g2 Node)
         (all_if_each (IsBare g2) nodes (λ id at.
-        let is = added_live (copy_of c) g2 Node id valid2 at in (
+        let is = added_live (copy_of c) g2 Node id valid_without at in (
           is.0,
-          added_nodes_are_bare c g2 id valid_c valid2
-              (arcs_are_copied c g valid_c valid keeps valid1)
+          added_nodes_are_bare c g2 id valid_c valid_without
+              (arcs_are_copied c g valid_c valid keeps valid_placed)
               (λ live. true≢false (sym is.1 ∙ ap not live)),
         )))
 

@@ -10,13 +10,15 @@ use Rattle.script_words.specs.declared.commands.Command.TheVariants as commands
 use Rattle.script_words.specs.declared.commands.GuardWord.{GuardWord}
 use Rattle.script_words.specs.Valid.{IsValid}
 use Rattle.report_text.specs.declared.faults.Fault.{Fault}
+use Rattle.report_text.specs.declared.replies.Reply.{Reply}
 use Rattle.lgf_file.specs.Documents.{IsDoc}
 use Rattle.lgf_file.specs.declared.documents.Doc.{Doc}
 use Rattle.plain_digraph.specs.PlainSteps.{PlainStep, after_steps}
+use Rattle.plain_digraph.specs.Copies.{Copy, copy_of}
 use Rattle.plain_digraph.specs.Alterations.{refusable_steps}
 use Rattle.plain_world.specs.declared.answers.Answer.{Answer}
-use Rattle.plain_world.specs.declared.answers.Answer.TheVariants.{Refused}
-use Rattle.plain_world.specs.Tables.{Name}
+use Rattle.plain_world.specs.declared.answers.Answer.TheVariants.{Answered, Refused}
+use Rattle.plain_world.specs.Tables.{Name, entry}
 use Rattle.plain_world.specs.World.{World, attached}
 use Rattle.plain_world.specs.Following.{follow}
 use Rattle.plain_world.specs.Demands.{item_named}
@@ -70,6 +72,13 @@ abbrev pub StepsKeepWorlds : Type 0
 StepsKeepWorlds = (world later : World) (command : Command) (answer : Answer) → IsWorld world
     → IsValid command → world.graph.stamps + stamps_taken world command ≤ MAX_STAMP
     → Step world command answer later → IsWorld later
+
+-- a snapshot that is restored gives back the nodes, the arcs and the orders of its copy
+abbrev pub RestoredGraphsAreCopied : Type 0
+RestoredGraphsAreCopied = (world later : World) (snapshot : Name) (copy : Copy) (reply : Reply)
+    → IsWorld world → entry world.snapshots snapshot ≡ Some (Some copy)
+    → world.graph.stamps + stamps_taken world (commands.Restore snapshot) ≤ MAX_STAMP
+    → Step world (commands.Restore snapshot) (Answered reply) later → copy_of later.graph ≡ copy
 
 -- ---- one answer
 

@@ -71,3 +71,9 @@ pub fn steps_keep_worlds()
 pub fn few_stamps_are_taken()
     ensures { laws.FewStampsAreTaken }
 {}
+
+/// A snapshot that is restored gives back the nodes, the arcs and the orders of its copy, with
+/// their stamps, where there are the stamps that it takes.
+pub fn restored_graphs_are_copied()
+    ensures { laws.RestoredGraphsAreCopied }
+{}
