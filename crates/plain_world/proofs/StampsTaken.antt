@@ -1,8 +1,8 @@
 -- How many stamps a command takes.
-use Rattle.std.proofs.Common.{◌≡◌, ◌+◌, ◌*◌, ◌≤◌, ℕ, Bool, true, false, refl, sym, ◌∙◌, ap, subst}
+use Rattle.std.proofs.Common.{◌*◌, ◌≤◌, ℕ, Bool, true, false, sym, subst}
 use Rattle.std.proofs.Common.{List, [], ◌∷◌, ◌++◌, map, filter, length, Option, None, Some}
 use Rattle.std.proofs.Common.{is_some, arith}
-use Rattle.std.specs.Prelude.{option_map, option_and_then, count_by}
+use Rattle.std.specs.Prelude.{option_map, option_and_then}
 use Rattle.std.specs.Option.{option_map_or}
 use Rattle.std.specs.List.{filter_map, cons_option, range_with_len}
 use Rattle.std.specs.FinMap as fin
@@ -10,14 +10,13 @@ use Rattle.std.proofs.lemmas.List.{length-append, length-map}
 use Rattle.std.proofs.lemmas.List.FromFn.{length-range_with_len}
 use Rattle.std.proofs.lemmas.List.Sorted.{length_permutation}
 use Rattle.std.proofs.lemmas.List.Sums.{length-filter, count_by-le-length}
-use Rattle.base_items.specs.declared.items.Fact.{Fact}
 use Rattle.base_items.specs.declared.items.ItemSort.TheVariants.{Node, Arc}
 use Rattle.base_items.specs.declared.limits.TheConstants.{MAX_ARCS}
 use Rattle.script_words.specs.declared.commands.Command.TheVariants as commands
 use Rattle.plain_digraph.specs.Digraph.{Digraph}
 use Rattle.plain_digraph.specs.Items.{ids, fact_of, facts, out_arcs, in_arcs, source_of, target_of}
 use Rattle.plain_digraph.specs.Steps.{add_node, new_node}
-use Rattle.plain_digraph.specs.PlainSteps.{PlainStep, AddArc, MoveFrom, MoveTo, PlaceBack}
+use Rattle.plain_digraph.specs.PlainSteps.{AddArc, MoveFrom, MoveTo, PlaceBack}
 use Rattle.plain_digraph.specs.Copies.{Copy, as_copied, is_moved, moved}
 use Rattle.plain_digraph.specs.Alterations.{refusable_steps, sources_to, targets_to, restoring}
 use Rattle.plain_digraph.specs.Alterations.{contraction, loop_contraction, node_split, is_neither}
