@@ -2,7 +2,10 @@
 use Rattle.std.proofs.Common.{◌≡◌, ◌≢◌, ℕ, zero, suc, ◌<◌, ◌≤◌, List, [], ◌∷◌, ◌++◌, length, Option}
 use Rattle.std.proofs.Common.{Some, None, Result, Ok, Err, refl, sym, ap, subst, ◌∙◌, arith}
 use Rattle.std.proofs.Common.{le_trans, inl, inr, get_or, set, get_or-set_other, slice_index, ◌⊎◌}
-use Rattle.std.proofs.Common.{OnOk, OnErr, true, false, if◌then◌else◌, ◌==◌, IsSome, ◌+◌}
+use Rattle.std.proofs.Common.{OnOk, OnErr, true, false, if◌then◌else◌, ◌==◌, IsSome, ◌+◌, is_some}
+use Rattle.std.proofs.Common.{IfSome}
+use Rattle.std.specs.Borrow.{MutBor}
+use Rattle.std.specs.Option.{option_copied_mut}
 use Rattle.std.proofs.lemmas.List.{get_or_push, length-append}
 use Rattle.std.proofs.Math.ListN.{get_or-append}
 use Rattle.std.proofs.lemmas.Grind.{common_steps}
@@ -303,6 +306,15 @@ module _ {O : Type 0} (watch : O → Watched) where
       let h = kept.known key there in
       seats-put watch slab (with_value slab key w) order key w h.0 h.1 h.2 kept.distinct
       (set_at slab.slots key w there) (λ k n. get_or-set_other slab.slots key k (Some w) None n)
+
+  -- whatever is written
+  pub seats-lent_any : (slab : Slab O) (order : List ℕ) (key : ℕ) → IsKept slab order
+      → (lent : Option (MutBor O)) → option_copied_mut lent ≡ get slab key
+      → IfSome lent (λ _. (w : O) → seats_of watch (with_value slab key w) order
+      ≡ put_seat (seat_from watch key (Some w)) (seats_of watch slab order))
+  seats-lent_any slab order key kept None e = tt
+  seats-lent_any slab order key kept (Some o) e =
+      seats-lent slab order key kept (ap is_some (sym e))
 
 pub is_none_of : {A : Type 0} (v : Option A) → (IsSome v → ⊥) → v ≡ None
 is_none_of None n = refl

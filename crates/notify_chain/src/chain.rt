@@ -113,13 +113,15 @@ impl<O: Observer> Chain<O> {
     }
 
     ghost use Rattle.std.specs.Borrow.{sem};
-    ghost use Rattle.notify_chain.specs.Lending.{lends_seat};
+    ghost use Rattle.std.specs.Prelude.{IfSome};
+    ghost use Rattle.notify_chain.specs.Lending.{lends_seat, PutsAny};
 
     /// Lends the observer of a seat. None exactly where the key has no seat. Once the loan ends the
     /// seat has the last observer written, and all else is as before.
     pub fn get_mut(&mut self, key: SeatKey) -> Option<&mut O>
         ensures* writes_back { sem 𝓛 (lends_seat O.row self.entry key.0 result) }
         ensures value { FindsSeat O.watch self.old key.0 (option_copied_mut result) }
+        ensures puts { IfSome result (λ _. PutsAny key.0 O.watch self.old) }
     {
         if !self.slab.contains(key.0) {
             return None;
