@@ -28,13 +28,13 @@ use Rattle.observe_core.specs.Conditions.{CanBuild}
 use Rattle.observe_core.proofs.ItemLemmas.{and_left, and_right, rises-lacks}
 use Rattle.observe_core.proofs.FitLaws.{fits-built}
 use Rattle.observe_core.proofs.LiveLaws.{live-few}
-use Rattle.notify_chain.specs.Seats.{SeatSeen}
-use Rattle.alter_graph.specs.Chains.{in_chain}
+use Rattle.notify_chain.specs.Seats.{SeatSeen, Attached}
+use Rattle.alter_graph.specs.Chains.{ChainsSeen, seats_in, in_chain}
 use Rattle.alter_graph.specs.Present.{present_of, facts_in}
-use Rattle.alter_graph.specs.State.{State, Stands, InStep, IsInStep}
+use Rattle.alter_graph.specs.State.{State, Stands, InStep, IsInStep, SnapsStay}
 use Rattle.alter_graph.specs.Attaching.{HasNoCounts, Attaches, with_seats}
 use Rattle.alter_graph.proofs.Listing.{facts_live}
-use Rattle.alter_graph.proofs.Reseated.{seated_in_step}
+use Rattle.alter_graph.proofs.Reseated.{seated_in_step, seated_stay}
 
 -- ---- facts by rising id, put to their places in turn
 
@@ -152,6 +152,24 @@ attached_in_step sort key came s t at none counts h =
       valid = subst IsValid (sym h.graph) at.valid;
       seats = subst (λ (g : Digraph). InStep (present_of g) t.chains) (sym h.graph)
           (subst (InStep (present_of s.graph)) (sym chains) step);
+    }
+
+-- the seat is told, and the snapshots stay
+pub attaches : (sort : ItemSort) (key : ℕ) (came : Watched) (s : State) (d : ChainsSeen)
+    → IsInStep s
+    → Attached (seats_in sort s.chains) (seats_in sort d) key came
+    (built (facts s.graph sort) came.seen)
+    → d ≡ in_chain sort (with_seats (seats_in sort d)) s.chains
+    → Attaches sort key came s (record { graph = s.graph; chains = d })
+attaches sort key came s d at seat rest =
+    let chains = rest ∙ ap (λ ss. in_chain sort (with_seats ss) s.chains) seat.last in
+    record {
+      graph = refl;
+      seat = seat;
+      rest = rest;
+      snaps = subst (λ (c : ChainsSeen). SnapsStay s.chains.snaps s
+          (record { graph = s.graph; chains = c })) (sym chains)
+          (seated_stay (present_of s.graph) s.chains sort seat.seat at.seats);
     }
 
 pub on_ok_of : {T E : Type 0} {P Q : T → Type 0} (r : Result T E) → ((x : T) → P x → Q x)

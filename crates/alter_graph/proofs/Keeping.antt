@@ -125,16 +125,16 @@ module _ (s t : State) (e : IsSame s t) where
 
 -- ---- snapshots that follow
 
+pub and_true : (b : Bool) → b ≡ b && true
+and_true true = refl
+and_true false = refl
+
 pub follow_none : (s t : State) → IsSame s t → SnapsFollow [] s t
 follow_none s t e = record {
   names = e.chains.snaps;
   each = all s.chains.snaps;
 }
   where
-    and_true : (b : Bool) → b ≡ b && true
-    and_true true = refl
-    and_true false = refl
-
     all : (ks : List SnapKeys)
         → AllOf (Follows [] (present_of s.graph) s.chains (present_of t.graph) t.chains) ks
     all [] = tt
@@ -179,7 +179,7 @@ module _ (a b : List PlainStep) (s t u : State) where
   abbrev r : Present
   r = present_of u.graph
 
-  follow_one : (k : SnapKeys) → Follows a p s.chains q t.chains k
+  pub follow_one : (k : SnapKeys) → Follows a p s.chains q t.chains k
       → Follows b q t.chains r u.chains k → Follows (a ++ b) p s.chains r u.chains k
   follow_one k f g = record {
     flag = flags_both (is_valid k s.chains) (is_valid k t.chains) (is_valid k u.chains)
@@ -193,7 +193,7 @@ module _ (a b : List PlainStep) (s t u : State) where
         (not (list_any (takes_from (saved_by k q t.chains)) b)) (sym g.flag ∙ v));
   }
 
-  follow_each : (ks : List SnapKeys) → AllOf (Follows a p s.chains q t.chains) ks
+  pub follow_each : (ks : List SnapKeys) → AllOf (Follows a p s.chains q t.chains) ks
       → AllOf (Follows b q t.chains r u.chains) ks
       → AllOf (Follows (a ++ b) p s.chains r u.chains) ks
   follow_each [] f g = tt

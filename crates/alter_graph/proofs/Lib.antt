@@ -24,6 +24,7 @@ pub mod Moves
 pub mod Contracted
 pub mod Splitting
 pub mod Reseated
+pub mod Lent
 pub mod Attached
 pub mod Snapping
 pub mod KeptWalk
@@ -31,3 +32,5 @@ pub mod Kept
 pub mod Replaced
 pub mod Added
 pub mod Reverted
+pub mod Tied
+pub mod Declined

@@ -38,15 +38,16 @@ lacks_all id [] all = tt
 lacks_all id (f ∷ fs) all = (all.0, lacks_all id fs all.1)
 
 -- an item with the id is there
-pub contained : (id : ℕ) (fs : List Fact) → IsTrue (has_id fact_id id fs)
-    → (f : Fact) × (Contains fs f) × (f.id ≡ id)
-contained id [] has = cc
-contained id (f ∷ fs) has =
-    elim (f.id == id) as (λ b. (f.id == id) ≡ b → IsTrue (if b then true else has_id fact_id id fs)
-    → (g : Fact) × (Contains (f ∷ fs) g) × (g.id ≡ id)) [
-      | true ↦ λ e _. (f, (zero, omega arith, refl), grind (arith, common_steps, e))
+pub contained : {X : Type 0} (id_of : X → ℕ) (id : ℕ) (xs : List X) → IsTrue (has_id id_of id xs)
+    → (x : X) × (Contains xs x) × (id_of x ≡ id)
+contained id_of id [] has = cc
+contained {X} id_of id (x ∷ xs) has =
+    elim (id_of x == id) as (λ b. (id_of x == id) ≡ b
+    → IsTrue (if b then true else has_id id_of id xs)
+    → (y : X) × (Contains (x ∷ xs) y) × (id_of y ≡ id)) [
+      | true ↦ λ e _. (x, (zero, omega arith, refl), grind (arith, common_steps, e))
       | false ↦ λ e more.
-          let r = contained id fs more in
+          let r = contained id_of id xs more in
           let at = r.1 in
           let l = at.1 in
           (r.0, (suc at.0, omega (arith, l), at.2), r.2)
@@ -57,7 +58,7 @@ rises_on : (low high : ℕ) (fs : List Fact) → low ≤ high → IsTrue (rises_
 rises_on low high [] l h = refl
 rises_on low high (f ∷ fs) l h = grind (arith, common_steps, l, h)
 
-range_rises : (told : ℕ → Option Fact)
+pub range_rises : (told : ℕ → Option Fact)
     → ((id : ℕ) (fact : Fact) → told id ≡ Some fact → fact.id ≡ id) → (a n : ℕ)
     → IsTrue (rises_from fact_id a (filter_map told (range_with_len a n)))
 range_rises told named a zero = refl
@@ -100,7 +101,7 @@ module _ (g : Digraph) (sort : ItemSort) (valid : IsValid g) where
 
   pub has_live : (id : ℕ) → IsTrue (has_id fact_id id (facts g sort)) → IsLive g sort id
   has_live id has =
-      let found = contained id (facts g sort) has in
+      let found = contained fact_id id (facts g sort) has in
       told_live id found.0
       (sym (ap (fact_of g sort) found.2) ∙ (facts_are_whole g sort found.0 valid).0 found.1)
 

@@ -14,13 +14,14 @@ use Rattle.observe_core.proofs.ItemLemmas.{all_more}
 use Rattle.notify_chain.specs.Seats.{SeatSeen, AllSeats, seat_key}
 use Rattle.alter_graph.specs.declared.snaps.SnapKeys.{SnapKeys}
 use Rattle.alter_graph.specs.Chains.{ChainsSeen, seats_in, in_chain}
-use Rattle.alter_graph.specs.Present.{Present, facts_in}
+use Rattle.alter_graph.specs.Present.{Present, present_of, facts_in}
 use Rattle.alter_graph.specs.Snaps.{held_at, kind_at, IsHalf, kept_of, node_half, arc_half}
 use Rattle.alter_graph.specs.Snaps.{saved_by, is_valid, saved_arcs, HasEnds, IsSnap}
-use Rattle.alter_graph.specs.Snaps.{OwnStamps, SnapsHold}
-use Rattle.alter_graph.specs.State.{Stands, InStep}
+use Rattle.alter_graph.specs.Snaps.{OwnStamps, SnapsHold, Follows}
+use Rattle.alter_graph.specs.State.{State, Stands, InStep, SnapsStay}
 use Rattle.alter_graph.specs.Attaching.{with_seats, uses_key, detached}
 use Rattle.alter_graph.proofs.Apart.{own_fewer}
+use Rattle.alter_graph.proofs.Keeping.{and_true, follow_each}
 use Rattle.alter_graph.proofs.Following.{StaysValid, all_left, all_right, all_both, fewer_arcs}
 
 -- ---- the halves of a snapshot, among other seats
@@ -30,6 +31,14 @@ pub record KeepsHalves (c d : ChainsSeen) (k : SnapKeys) : Type 0 where
   pub arc : arc_half k d ≡ arc_half k c
   pub node_kind : kind_at k.nodes.0 d.nodes.seats ≡ Map
   pub arc_kind : kind_at k.arcs.0 d.arcs.seats ≡ Map
+
+pub filtered : (P : SnapKeys → Type 0) (keep : SnapKeys → Bool) (ks : List SnapKeys) → AllOf P ks
+    → AllOf P (filter keep ks)
+filtered P keep [] all = tt
+filtered P keep (k ∷ ks) all =
+    let r = filtered P keep ks all.1 in
+    elim (keep k) as (λ b. AllOf P (if b then k ∷ filter keep ks else filter keep ks))
+    [ true ↦ (all.0, r) | false ↦ r ]
 
 module _ (p : Present) (c d : ChainsSeen) where
   copy_kept : (k : SnapKeys) → KeepsHalves c d k → saved_by k p d ≡ saved_by k p c
@@ -52,16 +61,15 @@ module _ (p : Present) (c d : ChainsSeen) where
     ends = λ v. subst HasEnds (sym (copy_kept k h)) (was.ends (sym (flag_kept k h) ∙ v));
   }
 
+  -- it is as valid as before, with the same copy
+  pub stays_as_is : (k : SnapKeys) → KeepsHalves c d k → Follows [] p c p d k
+  stays_as_is k h = record {
+    flag = flag_kept k h ∙ and_true (is_valid k c);
+    copy = λ v. copy_kept k h;
+  }
+
   stays_valid : (k : SnapKeys) → KeepsHalves c d k → StaysValid p c p d k
   stays_valid k h v = (sym (flag_kept k h) ∙ v, copy_kept k h)
-
-  filtered : (P : SnapKeys → Type 0) (keep : SnapKeys → Bool) (ks : List SnapKeys) → AllOf P ks
-      → AllOf P (filter keep ks)
-  filtered P keep [] all = tt
-  filtered P keep (k ∷ ks) all =
-      let r = filtered P keep ks all.1 in
-      elim (keep k) as (λ b. AllOf P (if b then k ∷ filter keep ks else filter keep ks))
-      [ true ↦ (all.0, r) | false ↦ r ]
 
   filtered_arcs : (P : Fact → Type 0) (keep : SnapKeys → Bool) (ks : List SnapKeys)
       → AllOf P (saved_arcs ks p c) → AllOf P (saved_arcs (filter keep ks) p c)
@@ -98,9 +106,20 @@ module _ (p : Present) (c d : ChainsSeen) where
             (λ P a. fewer_arcs P left p p c d stays (filtered_arcs P keep c.snaps a)) h.stamps);
       }
 
+all_names : (ks : List SnapKeys) → filter (λ k. true) ks ≡ ks
+all_names [] = refl
+all_names (k ∷ ks) = ap (λ l. k ∷ l) (all_names ks)
+
+-- or the names are the same
+pub all_snaps_kept : (p : Present) (c d : ChainsSeen) → d.snaps ≡ c.snaps
+    → ((k : SnapKeys) → IsSnap p c k → KeepsHalves c d k) → SnapsHold p c → SnapsHold p d
+all_snaps_kept p c d names each h =
+    snaps_kept p c d (λ k. true) (names ∙ sym (all_names c.snaps))
+    (subst (AllOf (KeepsHalves c d)) (sym names) (all_more each c.snaps h.each)) h
+
 -- ---- one more seat
 
-held_front : (key : ℕ) (ss more : List SeatSeen) → IsHalf (held_at key ss)
+pub held_front : (key : ℕ) (ss more : List SeatSeen) → IsHalf (held_at key ss)
     → held_at key (ss ++ more) ≡ held_at key ss
 held_front key [] more half = absurd half
 held_front key (s ∷ ss) more half =
@@ -111,7 +130,7 @@ held_front key (s ∷ ss) more half =
       | false ↦ λ h. held_front key ss more h
     ] half
 
-kind_front : (key : ℕ) (ss more : List SeatSeen) → IsHalf (held_at key ss)
+pub kind_front : (key : ℕ) (ss more : List SeatSeen) → IsHalf (held_at key ss)
     → kind_at key (ss ++ more) ≡ kind_at key ss
 kind_front key [] more half = absurd half
 kind_front key (s ∷ ss) more half =
@@ -144,11 +163,7 @@ stand_more : (stamps : ℕ) (live : List Fact) (ss more : List SeatSeen)
 stand_more stamps live [] more a b = b
 stand_more stamps live (s ∷ ss) more a b = (a.0, stand_more stamps live ss more a.1 b)
 
-all_names : (ks : List SnapKeys) → filter (λ k. true) ks ≡ ks
-all_names [] = refl
-all_names (k ∷ ks) = ap (λ l. k ∷ l) (all_names ks)
-
-same_names : (sort : ItemSort) (ss : List SeatSeen) (c : ChainsSeen)
+pub same_names : (sort : ItemSort) (ss : List SeatSeen) (c : ChainsSeen)
     → (in_chain sort (with_seats ss) c).snaps ≡ c.snaps
 same_names sorts.Node ss c = refl
 same_names sorts.Arc ss c = refl
@@ -159,9 +174,7 @@ pub seated_in_step : (p : Present) (c : ChainsSeen) (sort : ItemSort) (seat : Se
 seated_in_step p c sort seat at stand =
     let d : ChainsSeen = in_chain sort (with_seats (seats_in sort c ++ seat ∷ [])) c in
     let names = same_names sort (seats_in sort c ++ seat ∷ []) c in
-    let snaps = snaps_kept p c d (λ k. true) (names ∙ sym (all_names c.snaps))
-    (subst (AllOf (KeepsHalves c d)) (sym names)
-    (all_more (halves_beside p c sort (seat ∷ [])) c.snaps at.snaps.each)) at.snaps in
+    let snaps = all_snaps_kept p c d names (halves_beside p c sort (seat ∷ [])) at.snaps in
     of sort stand snaps
   where
     of : (x : ItemSort) → Stands p.stamps (facts_in x p) seat
@@ -177,6 +190,13 @@ seated_in_step p c sort seat at stand =
       arcs = stand_more p.stamps p.arcs c.arcs.seats (seat ∷ []) at.arcs (st, tt);
       snaps = snaps;
     }
+
+pub seated_stay : (p : Present) (c : ChainsSeen) (sort : ItemSort) (seat : SeatSeen) → InStep p c
+    → AllOf (Follows [] p c p (in_chain sort (with_seats (seats_in sort c ++ seat ∷ [])) c)) c.snaps
+seated_stay p c sort seat at =
+    let d : ChainsSeen = in_chain sort (with_seats (seats_in sort c ++ seat ∷ [])) c in
+    all_more (λ k was. stays_as_is p c d k (halves_beside p c sort (seat ∷ []) k was)) c.snaps
+    at.snaps.each
 
 -- ---- one seat fewer
 
@@ -266,6 +286,22 @@ detached_in_step p c sort gone at =
       snaps = snaps;
     }
 
+pub detached_stay : (p : Present) (c : ChainsSeen) (sort : ItemSort) (gone : ℕ) → InStep p c
+    → AllOf (Follows [] p c p (detached sort gone c)) (detached sort gone c).snaps
+detached_stay p c sort gone at =
+    let d : ChainsSeen = detached sort gone c in
+    all_more (stays_as_is p c d) d.snaps (all_left_halves p c sort gone c.snaps at.snaps.each)
+
+-- those that stay at one change and at a seat that goes then
+pub both_stay : (s t u : State) (sort : ItemSort) (gone : ℕ)
+    → u.chains ≡ detached sort gone t.chains
+    → SnapsStay t.chains.snaps s t → SnapsStay u.chains.snaps t u → SnapsStay u.chains.snaps s u
+both_stay s t u sort gone e first then_too =
+    let stay = Follows [] (present_of s.graph) s.chains (present_of t.graph) t.chains in
+    follow_each [] [] s t u u.chains.snaps
+    (subst (λ (c : ChainsSeen). AllOf stay c.snaps) (sym e)
+    (filtered stay (λ k. not (uses_key sort gone k)) t.chains.snaps first)) then_too
+
 -- ---- the same seats, and other keys that left
 
 pub popped_in_step : (p : Present) (c d : ChainsSeen) → d.nodes.seats ≡ c.nodes.seats
@@ -273,8 +309,7 @@ pub popped_in_step : (p : Present) (c d : ChainsSeen) → d.nodes.seats ≡ c.no
 popped_in_step p c d nodes arcs names at = record {
   nodes = subst (AllSeats (Stands p.stamps p.nodes)) (sym nodes) at.nodes;
   arcs = subst (AllSeats (Stands p.stamps p.arcs)) (sym arcs) at.arcs;
-  snaps = snaps_kept p c d (λ k. true) (names ∙ sym (all_names c.snaps))
-      (subst (AllOf (KeepsHalves c d)) (sym names) (all_more one c.snaps at.snaps.each)) at.snaps;
+  snaps = all_snaps_kept p c d names one at.snaps;
 }
   where
     one : (k : SnapKeys) → IsSnap p c k → KeepsHalves c d k

@@ -301,7 +301,7 @@ module _ (a : List ℕ) (k : List Fact) where
         | false ↦ λ q u. cc
       ] refl h
 
-ids_rise : (low : ℕ) (fs : List Fact) → IsTrue (rises_from fact_id low fs)
+pub ids_rise : (low : ℕ) (fs : List Fact) → IsTrue (rises_from fact_id low fs)
     → IsTrue (rises_from number_id low (map fact_id fs))
 ids_rise low [] h = refl
 ids_rise low (f ∷ fs) h =

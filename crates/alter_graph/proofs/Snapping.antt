@@ -38,6 +38,7 @@ use Rattle.alter_graph.proofs.Apart.{apart_back}
 use Rattle.alter_graph.proofs.Attached.{may_build, built_stands}
 use Rattle.alter_graph.proofs.Following.{all_left, all_right, all_both}
 use Rattle.alter_graph.proofs.Listing.{all_in, live_has}
+use Rattle.alter_graph.proofs.Reseated.{KeepsHalves, stays_as_is, held_front, kind_front}
 use Rattle.alter_graph.proofs.Reseated.{seated_in_step}
 
 -- ---- a seat by its key
@@ -306,6 +307,21 @@ module _ (s : State) (d : ChainsSeen) (name : SnapKeys) (node arc : Watched) (at
             (ap (λ (x : Saved). x.arcs) made_copy) seated.snaps;
       }
 
+  beside : (k : SnapKeys) → IsSnap (present_of s.graph) s.chains k → KeepsHalves s.chains d k
+  beside k was =
+      let more = h.nodes.seat ∷ [] in
+      let too = h.arcs.seat ∷ [] in
+      record {
+        node = ap (held_at k.nodes.0) h.nodes.last
+            ∙ held_front k.nodes.0 s.chains.nodes.seats more was.nodes.half;
+        arc = ap (held_at k.arcs.0) h.arcs.last
+            ∙ held_front k.arcs.0 s.chains.arcs.seats too was.arcs.half;
+        node_kind = ap (kind_at k.nodes.0) h.nodes.last
+            ∙ kind_front k.nodes.0 s.chains.nodes.seats more was.nodes.half ∙ was.nodes.kind;
+        arc_kind = ap (kind_at k.arcs.0) h.arcs.last
+            ∙ kind_front k.arcs.0 s.chains.arcs.seats too was.arcs.half ∙ was.arcs.kind;
+      }
+
   pub made_makes : Makes name s (record { graph = s.graph; chains = d })
   made_makes = record {
     graph = refl;
@@ -316,6 +332,8 @@ module _ (s : State) (d : ChainsSeen) (name : SnapKeys) (node arc : Watched) (at
     arc_key = h.arcs.name;
     arcs = λ i. record { seats = h.arcs.last i; left = h.arcs_left i };
     names = h.names;
+    others = all_more (λ k was. stays_as_is (present_of s.graph) s.chains d k (beside k was))
+        s.chains.snaps at.seats.snaps.each;
     valid = made_valid;
     copy = made_copy;
   }

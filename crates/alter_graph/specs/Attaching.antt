@@ -9,7 +9,7 @@ use Rattle.observe_core.specs.Told.{built}
 use Rattle.notify_chain.specs.Seats.{SeatSeen, seat_key, Attached}
 use Rattle.alter_graph.specs.declared.snaps.SnapKeys.{SnapKeys}
 use Rattle.alter_graph.specs.Chains.{ChainSeen, ChainsSeen, seats_in, in_chain}
-use Rattle.alter_graph.specs.State.{State}
+use Rattle.alter_graph.specs.State.{State, SnapsStay}
 
 -- nothing was counted yet
 pub record HasNoCounts (s : Seen) : Type 0 where
@@ -28,6 +28,7 @@ pub record Attaches (sort : ItemSort) (key : ℕ) (came : Watched) (old new : St
   pub seat : Attached (seats_in sort old.chains) (seats_in sort new.chains) key came
       (built (facts old.graph sort) came.seen)
   pub rest : new.chains ≡ in_chain sort (with_seats (seats_in sort new.chains)) old.chains
+  pub snaps : SnapsStay old.chains.snaps old new
 
 -- whether the key is that of the snapshot's half of the sort
 abbrev pub uses_key : ItemSort → ℕ → SnapKeys → Bool

@@ -9,7 +9,7 @@ use Rattle.alter_graph.specs.declared.snaps.SnapKeys.{SnapKeys}
 use Rattle.alter_graph.specs.Chains.{ChainsSeen}
 use Rattle.alter_graph.specs.Present.{present_of}
 use Rattle.alter_graph.specs.Snaps.{saved_by, is_valid}
-use Rattle.alter_graph.specs.State.{State}
+use Rattle.alter_graph.specs.State.{State, SnapsStay}
 use Rattle.alter_graph.specs.Attaching.{with_seats, detached}
 
 -- an observer of either sort was seated, and the name of both was put last
@@ -32,6 +32,7 @@ pub record Makes (name : SnapKeys) (old new : State) : Type 0 where
   pub arc_key : arc_seat.key ≡ name.arcs.0
   pub arcs : new.chains.arcs ≡ with_seats (old.chains.arcs.seats ++ arc_seat ∷ []) old.chains.arcs
   pub names : new.chains.snaps ≡ old.chains.snaps ++ name ∷ []
+  pub others : SnapsStay old.chains.snaps old new
   pub valid : is_valid name new.chains ≡ true
   pub copy : saved_by name (present_of new.graph) new.chains
       ≡ record {

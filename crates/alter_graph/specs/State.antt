@@ -1,5 +1,5 @@
 -- The plain state of an alterable digraph: the digraph, and what is seen of the two chains.
-use Rattle.std.specs.Prelude.{◌≡◌, ℕ, ◌+◌, ◌*◌, ◌≤◌, List, length, refl}
+use Rattle.std.specs.Prelude.{◌≡◌, ℕ, ◌+◌, ◌*◌, ◌≤◌, List, [], length, refl}
 use Rattle.std.specs.Coded.{Coded, code_by, coded×}
 use Rattle.base_items.specs.declared.items.Fact.{Fact}
 use Rattle.base_items.specs.declared.limits.TheConstants.{MAX_ARCS}
@@ -11,6 +11,7 @@ use Rattle.list_digraph.specs.Roomy.{Roomy, roomy_code}
 use Rattle.observe_core.specs.Seen.{Watched}
 use Rattle.observe_core.specs.Fits.{Fits}
 use Rattle.notify_chain.specs.Seats.{SeatSeen, AllSeats}
+use Rattle.alter_graph.specs.declared.snaps.SnapKeys.{SnapKeys}
 use Rattle.alter_graph.specs.Chains.{ChainsOf, chains_code, ChainsSeen, chains_seen, IsSameChains}
 use Rattle.alter_graph.specs.Present.{Present, present_of}
 use Rattle.alter_graph.specs.Snaps.{SnapsHold, Follows}
@@ -64,3 +65,8 @@ pub record SnapsFollow (steps : List PlainStep) (old new : State) : Type 0 where
   pub each : AllOf
       (Follows steps (present_of old.graph) old.chains (present_of new.graph) new.chains)
       old.chains.snaps
+
+-- these snapshots are as valid as they were, and while they are valid their copies stay
+abbrev pub SnapsStay : List SnapKeys → State → State → Type 0
+SnapsStay names old new =
+    AllOf (Follows [] (present_of old.graph) old.chains (present_of new.graph) new.chains) names

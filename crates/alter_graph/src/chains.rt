@@ -176,13 +176,14 @@ impl<O: Observer> Chains<O> {
 
     ghost use Rattle.std.specs.Borrow.{sem};
     ghost use Rattle.std.specs.Option.{option_copied_mut};
-    ghost use Rattle.alter_graph.specs.Lending.{chains_lend};
+    ghost use Rattle.alter_graph.specs.Lending.{chains_lend, AnyReseats};
 
     /// Lends the observer of a seat.
     pub fn seat_mut(&mut self, sort: ItemSort, key: SeatKey) -> Option<&mut O>
         ensures* writes_back { sem 𝓛 (chains_lend O.row self.entry sort key.0 result) }
         ensures value { seat_seen O.watch key.0 (option_copied_mut result)
             ≡ find_seat key.0 (seats_in sort (chains_seen O.watch self.old)) }
+        ensures seats { IfSome result (λ _. AnyReseats O.watch sort key.0 self.old) }
     {
         match sort {
             ItemSort::Node => self.nodes.get_mut(key),

@@ -7,7 +7,7 @@ ghost use Rattle.observe_core.specs.Conditions.{CanBuild};
 ghost use Rattle.observe_core.specs.Untold.{TracksNothing};
 ghost use Rattle.notify_chain.specs.Seats.{HandsBack, find_seat, seat_seen};
 ghost use Rattle.alter_graph.specs.Chains.{chains_seen, seats_in};
-ghost use Rattle.alter_graph.specs.State.{state_of, IsSame, IsInStep};
+ghost use Rattle.alter_graph.specs.State.{state_of, IsSame, IsInStep, SnapsStay};
 ghost use Rattle.alter_graph.specs.Attaching.{HasNoCounts, Attaches, detached};
 ghost use Rattle.alter_graph.specs.Attaching.{first_left, popped};
 
@@ -43,7 +43,7 @@ impl<O: Observer> Alterable<O> {
     }
 
     /// Takes an observer out, as it is. None exactly where the key has no seat. The other seats
-    /// stay; a snapshot of which it was a half is gone.
+    /// stay; a snapshot of which it was a half is gone, and the other snapshots stay as they are.
     pub fn detach(&mut self, sort: ItemSort, key: SeatKey) -> Option<O>
         ensures found { seat_seen O.watch key.0 result
             ≡ find_seat key.0 (seats_in sort (chains_seen O.watch self.old.chains)) }
@@ -52,6 +52,8 @@ impl<O: Observer> Alterable<O> {
             ≡ detached sort key.0 (chains_seen O.watch self.old.chains) }
         ensures in_step { IsInStep (state_of O.watch self.old)
             → IsInStep (state_of O.watch self.new) }
+        ensures snaps { IsInStep (state_of O.watch self.old) → SnapsStay self.new.chains.snaps
+            (state_of O.watch self.old) (state_of O.watch self.new) }
     {
         self.chains.detach(sort, key)
     }
@@ -66,14 +68,18 @@ impl<O: Observer> Alterable<O> {
 
     ghost use Rattle.std.specs.Borrow.{sem};
     ghost use Rattle.std.specs.Option.{option_copied_mut};
-    ghost use Rattle.alter_graph.specs.Lending.{graph_lends};
+    ghost use Rattle.std.specs.Prelude.{IfSome};
+    ghost use Rattle.alter_graph.specs.Lending.{graph_lends, MayWrite};
 
     /// Lends the observer of a seat. None exactly where the key has no seat. Once the loan ends the
-    /// seat has the last observer written, and all else is as before.
+    /// seat has the last observer written, and all else is as before. Where that one stands for the
+    /// same items as the one from before, with its kind, its tracked facts and its counts, the
+    /// observers are in step again; a half of a snapshot has to be as it was.
     pub fn seat_mut(&mut self, sort: ItemSort, key: SeatKey) -> Option<&mut O>
         ensures* writes_back { sem 𝓛 (graph_lends O.row self.entry sort key.0 result) }
         ensures value { seat_seen O.watch key.0 (option_copied_mut result)
             ≡ find_seat key.0 (seats_in sort (chains_seen O.watch self.old.chains)) }
+        ensures writes { IfSome result (λ o. MayWrite O.watch sort key.0 self.old o.now) }
     {
         self.chains.seat_mut(sort, key)
     }

@@ -6,7 +6,7 @@ ghost use Rattle.notify_chain.specs.Seats.{seats};
 ghost use Rattle.alter_graph.specs.Chains.{chains_seen};
 ghost use Rattle.alter_graph.specs.Snaps.{held_at, is_valid};
 ghost use Rattle.alter_graph.specs.Snapping.{Makes, forgotten};
-ghost use Rattle.alter_graph.specs.State.{state_of, IsSame, IsInStep};
+ghost use Rattle.alter_graph.specs.State.{state_of, IsSame, IsInStep, SnapsStay};
 
 use crate::gathering::all_facts;
 use crate::graph::Alterable;
@@ -79,13 +79,16 @@ impl<O: HoldsHalf> Alterable<O> {
         half_valid(&self.chains.nodes, name.nodes) && half_valid(&self.chains.arcs, name.arcs)
     }
 
-    /// Takes both halves of a snapshot out. The digraph and the other seats stay.
+    /// Takes both halves of a snapshot out, which is then gone. The digraph, the other seats and
+    /// the other snapshots stay.
     pub fn forget(&mut self, name: SnapKeys)
         ensures graph { self.new.graph ≡ self.old.graph }
         ensures forgotten { chains_seen O.watch self.new.chains
             ≡ forgotten name (chains_seen O.watch self.old.chains) }
         ensures in_step { IsInStep (state_of O.watch self.old)
             → IsInStep (state_of O.watch self.new) }
+        ensures snaps { IsInStep (state_of O.watch self.old) → SnapsStay self.new.chains.snaps
+            (state_of O.watch self.old) (state_of O.watch self.new) }
     {
         self.detach(ItemSort::Node, name.nodes);
         self.detach(ItemSort::Arc, name.arcs);

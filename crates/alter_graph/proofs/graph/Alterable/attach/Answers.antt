@@ -1,4 +1,4 @@
-use Rattle.std.proofs.Common.{List, refl, sym, subst, ◌∙◌, IfOk, IfErr}
+use Rattle.std.proofs.Common.{List, sym, subst, ◌∙◌, IfOk, IfErr}
 use Rattle.base_items.specs.declared.items.Fact.{Fact}
 use Rattle.observe_core.specs.Told.{built}
 use Rattle.observe_core.specs.Conditions.{CanBuild}
@@ -8,7 +8,7 @@ use Rattle.alter_graph.specs.Chains.{ChainsSeen, chains_seen, seats_in}
 use Rattle.alter_graph.specs.Present.{present_of}
 use Rattle.alter_graph.specs.State.{State, state_of, IsSame, InStep, IsInStep}
 use Rattle.alter_graph.proofs.Sameness.{same_refl}
-use Rattle.alter_graph.proofs.Attached.{may_build, attached_in_step, on_ok_of, either_way}
+use Rattle.alter_graph.proofs.Attached.{may_build, attached_in_step, attaches, on_ok_of, either_way}
 use Rattle.alter_graph.proofs.graph.Alterable.attach.Goals as goal
 
 pub attach-requires : goal.attach-requires
@@ -26,8 +26,14 @@ returns-in-Ok-clause-attaches g c =
     (seats_in c.args.sort (chains_seen w c.attach.new.self)) key.0 (w c.args.o)
     (built fs (w c.args.o).seen))) (c.as_slice.ensures.value ∙ c.in-Ok.ensures)
     c.attach.ensures.seat in
+    let at = subst (λ v. IsInStep (state_of w v)) (sym c.self.view_is) c.requires.in_step in
+    let s : State = record {
+      graph = c.self.inside.graph.graph;
+      chains = chains_seen w c.self.inside.chains;
+    } in
     rw (← c.self.view_is) (on_ok_of c.attach.result
-    (λ key h. record { graph = refl; seat = h; rest = c.attach.ensures.rest }) seat)
+    (λ key h. attaches c.args.sort key.0 (w c.args.o) s (chains_seen w c.attach.new.self) at h
+    c.attach.ensures.rest) seat)
 
 pub returns-in-Ok-clause-same : goal.returns-in-Ok-clause-same
 returns-in-Ok-clause-same g c =
@@ -63,7 +69,8 @@ returns-in-Ok-clause-in_step g c =
     either_way c.attach.result
     (λ key h. attached_in_step c.args.sort key.0 (w c.args.o) s
     (record { graph = s.graph; chains = chains_seen w c.attach.new.self }) at c.requires.empty
-    c.requires.counts (record { graph = refl; seat = h; rest = c.attach.ensures.rest }))
+    c.requires.counts (attaches c.args.sort key.0 (w c.args.o) s
+    (chains_seen w c.attach.new.self) at h c.attach.ensures.rest))
     (λ e. record {
       valid = at.valid;
       seats = subst (InStep (present_of s.graph)) (sym e) at.seats;

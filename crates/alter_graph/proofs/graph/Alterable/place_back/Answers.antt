@@ -2,20 +2,19 @@ use Rattle.std.proofs.Common.{◌≡◌, ◌∙◌, IsTrue, sym, ap, subst, IfEr
 use Rattle.base_items.specs.declared.items.ItemSort.TheVariants as sorts
 use Rattle.notify_chain.proofs.SeatLemmas.{on_ok}
 use Rattle.alter_graph.specs.declared.snaps.SnapKeys.{SnapKeys}
-use Rattle.alter_graph.specs.declared.faults.AlterFault.{AlterFault}
-use Rattle.alter_graph.specs.declared.faults.AlterFault.TheVariants.{Vetoed, SameNode, Full, Stale}
-use Rattle.alter_graph.specs.declared.faults.AlterFault.TheVariants.{Memory}
 use Rattle.alter_graph.specs.Chains.{chains_seen}
 use Rattle.alter_graph.specs.State.{State, state_of}
 use Rattle.alter_graph.specs.Snaps.{is_valid, arc_half, kept_of}
 use Rattle.alter_graph.specs.Steps.{plain_steps, CanTakeAll, HaveOwnPlaces}
 use Rattle.alter_graph.specs.Room.{nodes_in, arcs_in}
 use Rattle.alter_graph.specs.Outcome.{Alters, Stays}
-use Rattle.alter_graph.specs.Restoring.{places, PlacesBack, LeavesAll}
+use Rattle.alter_graph.specs.Restoring.{places, PlacesBack}
 use Rattle.alter_graph.proofs.Sameness.{same_refl}
 use Rattle.alter_graph.proofs.Taking.{steady_in}
 use Rattle.alter_graph.proofs.Kept.{kept_can, kept_have, no_nodes, no_arcs}
 use Rattle.alter_graph.proofs.Replaced.{given_up_at, node_half_stays}
+use Rattle.alter_graph.proofs.Declined.{leaves_all}
+use Rattle.alter_graph.proofs.Tied.{refusable_tied}
 use Rattle.alter_graph.proofs.graph.Alterable.place_back.Goals as goal
 
 if_err : {T E : Type 0} {P Q : E → Type 0} (r : Result T E) → ((e : E) → P e → Q e) → IfErr r P
@@ -23,22 +22,17 @@ if_err : {T E : Type 0} {P Q : E → Type 0} (r : Result T E) → ((e : E) → P
 if_err (Ok x) f h = tt
 if_err (Err e) f h = f e h
 
-leaves_all : (k : SnapKeys) (s t : State) (why : AlterFault) → IsTrue (is_valid k s.chains)
-    → Stays (places k s.chains) s t why → LeavesAll k s t why
-leaves_all k s t (Vetoed sort key) v h = (v, h)
-leaves_all k s t SameNode v h = h.refused
-leaves_all k s t (Full limit) v h = (v, h)
-leaves_all k s t Stale v h = absurd h.refused
-leaves_all k s t Memory v h = record { same = h.same; in_step = h.in_step }
-
-pub returns-then-not-snapshot_valid-clause-leaves : goal.returns-then-not-snapshot_valid-clause-leaves
-returns-then-not-snapshot_valid-clause-leaves g c = (
-  sym c.if-not-snapshot_valid.ensures,
-  record {
-    same = same_refl (state_of g.O.Observer.watch c.args.self.now);
-    in_step = c.requires.in_step;
-  },
-)
+pub returns-then-not-snapshot_valid : goal.returns-then-not-snapshot_valid
+returns-then-not-snapshot_valid g c = record {
+  places = tt;
+  leaves = (
+    sym c.if-not-snapshot_valid.ensures,
+    record {
+      same = same_refl (state_of g.O.Observer.watch c.args.self.now);
+      in_step = c.requires.in_step;
+    },
+  );
+}
 
 pub returns-in-Err-clause-leaves : goal.returns-in-Err-clause-leaves
 returns-in-Err-clause-leaves g c = record {
@@ -119,5 +113,8 @@ returns-in-Ok-clause-leaves g c =
     ap plain_steps c.as_slice.ensures.value ∙ c.in-Ok.ensures
     ∙ ap (λ x. places k (chains_seen w x)) c.chains.ensures in
     let v : IsTrue (is_valid k s.chains) = sym c.if-not-snapshot_valid.ensures in
-    if_err c.run_moves.result (λ f h. leaves_all k s t f v (subst (λ l. Stays l s t f) e h))
+    if_err c.run_moves.result
+    (λ f h. leaves_all k s t c.requires.in_step v
+    (λ making is. refusable_tied k making s c.requires.in_step c.requires.there is
+    (steady_in w sorts.Arc c.args.self.now.chains)) f (subst (λ l. Stays l s t f) e h))
     c.run_moves.ensures.stays
