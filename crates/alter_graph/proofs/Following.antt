@@ -1,5 +1,6 @@
 -- A snapshot follows each step, and the law of snapshots stays.
-use Rattle.std.proofs.Common.{◌≡◌, ℕ, ◌+◌, ◌<◌, Bool, true, false, not, ◌&&◌, ◌==◌, if◌then◌else◌}
+use Rattle.std.proofs.Common.{◌≡◌, ℕ, zero, suc, ◌+◌, ◌<◌, Bool, true, false, not, ◌&&◌, ◌==◌}
+use Rattle.std.proofs.Common.{if◌then◌else◌}
 use Rattle.std.proofs.Common.{IsTrue, List, [], ◌∷◌, ◌++◌, inl, inr, refl, sym, ap, subst, ◌∙◌}
 use Rattle.std.proofs.Common.{arith}
 use Rattle.std.specs.Prelude.{◌||◌}
@@ -19,6 +20,7 @@ use Rattle.plain_digraph.specs.Valid.{IsValid}
 use Rattle.observe_core.specs.declared.changes.Change.TheVariants.{Add, Shift, Build}
 use Rattle.observe_core.specs.declared.losses.Loss.TheVariants.{Erase, Clear}
 use Rattle.observe_core.specs.Items.{has_id}
+use Rattle.observe_core.specs.Held.{Held}
 use Rattle.observe_core.specs.Fits.{HeldFits}
 use Rattle.observe_core.specs.Saved as whole
 use Rattle.observe_core.proofs.ItemLemmas.{and_left, and_right, all_more, all_at}
@@ -26,7 +28,8 @@ use Rattle.notify_chain.specs.Seats.{SeatSeen, AllSeats, Steady}
 use Rattle.alter_graph.specs.declared.snaps.SnapKeys.{SnapKeys}
 use Rattle.alter_graph.specs.Chains.{ChainsSeen, seats_in, in_chain}
 use Rattle.alter_graph.specs.Present.{Present, present_of, facts_in, fact_at}
-use Rattle.alter_graph.specs.Snaps.{held_at, kept_of, node_half, arc_half, Saved, saved_by}
+use Rattle.alter_graph.specs.Snaps.{half_held, half_of, held_at, kept_of, node_half, arc_half}
+use Rattle.alter_graph.specs.Snaps.{Saved, saved_by}
 use Rattle.alter_graph.specs.Snaps.{is_valid}
 use Rattle.alter_graph.specs.Snaps.{saved_arcs, Apart, IsBelow, OwnStamps, HasEnds}
 use Rattle.alter_graph.specs.Snaps.{IsSnap, SnapsHold, has_any, takes_from, Follows}
@@ -40,13 +43,18 @@ use Rattle.alter_graph.proofs.Apart.{own_fewer, apart_new, apart_moved, IsNextAt
 use Rattle.alter_graph.proofs.Saving.{held_noticed, sound_at, held_next, seat_next, IsNoMove}
 use Rattle.alter_graph.proofs.Saving.{still_next, saves_next, takes_half, flag_next}
 
+half_fits : (form : ℕ) (h : Held) (live : List Fact) → HeldFits h live
+    → HeldFits (half_held form h) live
+half_fits zero h live fits = fits
+half_fits (suc form) h live fits = tt
+
 pub fits_at : (stamps : ℕ) (live : List Fact) (key : ℕ) (ss : List SeatSeen)
     → AllSeats (Stands stamps live) ss → HeldFits (held_at key ss) live
 fits_at stamps live key [] h = tt
 fits_at stamps live key (s ∷ ss) h =
     let r = fits_at stamps live key ss h.1 in
-    elim (s.key == key) as (λ b. HeldFits (if b then s.seen.held else held_at key ss) live)
-    [ true ↦ h.0.fits.held | false ↦ r ]
+    elim (s.key == key) as (λ b. HeldFits (if b then half_of s.seen else held_at key ss) live)
+    [ true ↦ half_fits s.seen.form s.seen.held live h.0.fits.held | false ↦ r ]
 
 abbrev pub copy_in : ItemSort → Saved → List Fact
 copy_in sorts.Node copy = copy.nodes

@@ -12,7 +12,7 @@ use Rattle.observe_core.proofs.ItemLemmas.{and_left, all_more}
 use Rattle.notify_chain.specs.Seats.{SeatSeen, AllSeats}
 use Rattle.alter_graph.specs.declared.snaps.SnapKeys.{SnapKeys}
 use Rattle.alter_graph.specs.Present.{Present, present_of}
-use Rattle.alter_graph.specs.Snaps.{held_at, kind_at, IsHalf, kept_of, saved_by, is_valid}
+use Rattle.alter_graph.specs.Snaps.{half_of, held_at, kind_at, IsHalf, kept_of, saved_by, is_valid}
 use Rattle.alter_graph.specs.Snaps.{saved_arcs, OwnStamps, HasEnds, IsHalfSeat, IsSnap, SnapsHold}
 use Rattle.alter_graph.specs.Snaps.{takes_from, Follows}
 use Rattle.alter_graph.specs.State.{State, IsSame, Stands, IsInStep, SnapsFollow}
@@ -30,7 +30,7 @@ held_same key (x ∷ xs) (y ∷ ys) e =
     let r = held_same key xs ys e.1 in
     let k = e.0.key in
     let s = e.0.seen in
-    λ i. if k i == key then (s i).held else r i
+    λ i. if k i == key then half_of (s i) else r i
 
 kind_same : (key : ℕ) (xs ys : List SeatSeen) → AreSame xs ys → kind_at key ys ≡ kind_at key xs
 kind_same key [] [] e = refl

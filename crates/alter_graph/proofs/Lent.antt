@@ -17,7 +17,7 @@ use Rattle.notify_chain.specs.Seats.{SeatSeen, AllSeats, seat_from, seat_seen, f
 use Rattle.alter_graph.specs.declared.snaps.SnapKeys.{SnapKeys}
 use Rattle.alter_graph.specs.Chains.{ChainsSeen, chains_seen, seats_in, in_chain}
 use Rattle.alter_graph.specs.Present.{Present, present_of, facts_in}
-use Rattle.alter_graph.specs.Snaps.{held_at, kind_at, IsHalf, IsSnap, SnapsHold, Follows}
+use Rattle.alter_graph.specs.Snaps.{half_of, held_at, kind_at, IsHalf, IsSnap, SnapsHold, Follows}
 use Rattle.alter_graph.specs.State.{AlterOf, Stands, InStep}
 use Rattle.alter_graph.specs.Attaching.{with_seats}
 use Rattle.alter_graph.specs.Lending.{AnyReseats, Rewrites, MayWrite}
@@ -71,20 +71,20 @@ module _ (live : List Fact) (s old : SeatSeen) (h : Rewrites live old.seen s.see
         → held_at key (if b then s ∷ ts else t ∷ put_seat s ts) ≡ held_at key (t ∷ ts)) [
           | true ↦ λ k q.
               let m : s.key ≡ t.key = grind (arith, common_steps, k) in
-              let same : IsHalf t.seen.held → s.seen.held ≡ t.seen.held =
-              subst (λ (x : SeatSeen). IsHalf x.seen.held → s.seen.held ≡ x.seen.held)
+              let same : IsHalf (half_of t.seen) → half_of s.seen ≡ half_of t.seen =
+              subst (λ (x : SeatSeen). IsHalf (half_of x.seen) → half_of s.seen ≡ half_of x.seen)
               (sym (same_Some t old q)) h.half in
-              ap (λ n. if n == key then s.seen.held else held_at key ts) m
-              ∙ elim (t.key == key) as (λ b. IsHalf (if b then t.seen.held else held_at key ts)
-              → (if b then s.seen.held else held_at key ts)
-              ≡ (if b then t.seen.held else held_at key ts)) [
+              ap (λ n. if n == key then half_of s.seen else held_at key ts) m
+              ∙ elim (t.key == key) as (λ b. IsHalf (if b then half_of t.seen else held_at key ts)
+              → (if b then half_of s.seen else held_at key ts)
+              ≡ (if b then half_of t.seen else held_at key ts)) [
                 | true ↦ same
                 | false ↦ λ p. refl
               ] half
           | false ↦ λ k q.
-              elim (t.key == key) as (λ b. IsHalf (if b then t.seen.held else held_at key ts)
-              → (if b then t.seen.held else held_at key (put_seat s ts))
-              ≡ (if b then t.seen.held else held_at key ts)) [
+              elim (t.key == key) as (λ b. IsHalf (if b then half_of t.seen else held_at key ts)
+              → (if b then half_of t.seen else held_at key (put_seat s ts))
+              ≡ (if b then half_of t.seen else held_at key ts)) [
                 | true ↦ λ p. refl
                 | false ↦ λ p. held_put ts q p
               ] half

@@ -90,7 +90,7 @@ module _ (key : ℕ) (a : List ℕ) (others : ℕ) (valid : Bool) where
       ∙ ap (λ l. Half a others l valid) (given_up old f ks id b) in
       let now : State = took (PlaceBack f) s in
       kept_placed (f.id + 1) ks now
-      (heard_held key (told (Shift old f)) (held_shifted old f) (λ s. refl) refl
+      (heard_held key (told (Shift old f)) (held_shifted old f) (λ s. refl) (λ s. refl) refl
       s.chains.arcs.seats ∙ ap (held_shifted old f) h ∙ e) b all.1
       (all_told_after s.graph f ks (lacks_each f.id ks lacks) are.1 now.graph
       (λ x other. told_after s.graph f x other))

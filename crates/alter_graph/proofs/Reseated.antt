@@ -15,7 +15,7 @@ use Rattle.notify_chain.specs.Seats.{SeatSeen, AllSeats, seat_key}
 use Rattle.alter_graph.specs.declared.snaps.SnapKeys.{SnapKeys}
 use Rattle.alter_graph.specs.Chains.{ChainsSeen, seats_in, in_chain}
 use Rattle.alter_graph.specs.Present.{Present, present_of, facts_in}
-use Rattle.alter_graph.specs.Snaps.{held_at, kind_at, IsHalf, kept_of, node_half, arc_half}
+use Rattle.alter_graph.specs.Snaps.{half_of, held_at, kind_at, IsHalf, kept_of, node_half, arc_half}
 use Rattle.alter_graph.specs.Snaps.{saved_by, is_valid, saved_arcs, HasEnds, IsSnap}
 use Rattle.alter_graph.specs.Snaps.{OwnStamps, SnapsHold, Follows}
 use Rattle.alter_graph.specs.State.{State, Stands, InStep, SnapsStay}
@@ -123,9 +123,9 @@ pub held_front : (key : ℕ) (ss more : List SeatSeen) → IsHalf (held_at key s
     → held_at key (ss ++ more) ≡ held_at key ss
 held_front key [] more half = absurd half
 held_front key (s ∷ ss) more half =
-    elim (s.key == key) as (λ b. IsHalf (if b then s.seen.held else held_at key ss)
-    → (if b then s.seen.held else held_at key (ss ++ more))
-    ≡ (if b then s.seen.held else held_at key ss)) [
+    elim (s.key == key) as (λ b. IsHalf (if b then half_of s.seen else held_at key ss)
+    → (if b then half_of s.seen else held_at key (ss ++ more))
+    ≡ (if b then half_of s.seen else held_at key ss)) [
       | true ↦ λ h. refl
       | false ↦ λ h. held_front key ss more h
     ] half
@@ -134,7 +134,7 @@ pub kind_front : (key : ℕ) (ss more : List SeatSeen) → IsHalf (held_at key s
     → kind_at key (ss ++ more) ≡ kind_at key ss
 kind_front key [] more half = absurd half
 kind_front key (s ∷ ss) more half =
-    elim (s.key == key) as (λ b. IsHalf (if b then s.seen.held else held_at key ss)
+    elim (s.key == key) as (λ b. IsHalf (if b then half_of s.seen else held_at key ss)
     → (if b then s.seen.kind else kind_at key (ss ++ more))
     ≡ (if b then s.seen.kind else kind_at key ss)) [
       | true ↦ λ h. refl
@@ -208,11 +208,11 @@ held_without gone key (s ∷ ss) apart =
     let rest = without_item seat_key gone ss in
     elim (s.key == gone) as (λ b. (s.key == gone) ≡ b
     → held_at key (if b then rest else s ∷ rest)
-    ≡ (if s.key == key then s.seen.held else held_at key ss)) [
+    ≡ (if s.key == key then half_of s.seen else held_at key ss)) [
       | true ↦ λ e.
           let other : (s.key == key) ≡ false = grind (arith, common_steps, e, apart) in
-          r ∙ sym (ap (λ b. if b then s.seen.held else held_at key ss) other)
-      | false ↦ λ e. ap (λ h. if s.key == key then s.seen.held else h) r
+          r ∙ sym (ap (λ b. if b then half_of s.seen else held_at key ss) other)
+      | false ↦ λ e. ap (λ h. if s.key == key then half_of s.seen else h) r
     ] refl
 
 kind_without : (gone key : ℕ) (ss : List SeatSeen) → (key == gone) ≡ false

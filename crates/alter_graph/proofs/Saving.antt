@@ -1,5 +1,6 @@
 -- One half and a notice: what it saves, and whether it is valid.
-use Rattle.std.proofs.Common.{◌≡◌, ℕ, ◌+◌, ◌-◌, Bool, true, false, not, ◌&&◌, nat_le, nat_eq}
+use Rattle.std.proofs.Common.{◌≡◌, ℕ, zero, suc, ◌+◌, ◌-◌, Bool, true, false, not, ◌&&◌}
+use Rattle.std.proofs.Common.{nat_le, nat_eq}
 use Rattle.std.proofs.Common.{◌==◌, if◌then◌else◌, IsTrue, List, [], ◌∷◌, map, length}
 use Rattle.std.proofs.Common.{refl, sym, ap, subst, ◌∙◌, arith}
 use Rattle.std.proofs.lemmas.Grind.{common_steps}
@@ -30,7 +31,8 @@ use Rattle.observe_core.proofs.SoundLemmas.{map_sound}
 use Rattle.notify_chain.specs.Seats.{SeatSeen, AllSeats, Steady}
 use Rattle.notify_chain.specs.Leaving.{goes, stayers}
 use Rattle.alter_graph.specs.Chains.{seat_heard, seats_heard}
-use Rattle.alter_graph.specs.Snaps.{held_at, kind_at, IsHalf, kept_of, has_any, IsHalfSeat}
+use Rattle.alter_graph.specs.Snaps.{half_held, half_of, held_at, kind_at, IsHalf, kept_of}
+use Rattle.alter_graph.specs.Snaps.{has_any, IsHalfSeat}
 use Rattle.alter_graph.specs.Steps.{Notice, Tells, Loses, seats_noticed}
 use Rattle.alter_graph.proofs.Telling.{facts_noticed, CanHear}
 
@@ -43,23 +45,40 @@ held_noticed (Loses Clear) h = held_cleared h
 
 -- ---- look-ups
 
+half_sound : (form : ℕ) (h : Held) → IsHeldSound h → IsHeldSound (half_held form h)
+half_sound zero h sound = sound
+half_sound (suc form) h sound = tt
+
+-- what changes nothing where nothing is held
+half_passed : (g : Held → Held) → g Nothing ≡ Nothing → (form : ℕ) (h : Held)
+    → half_held form (g h) ≡ g (half_held form h)
+half_passed g none zero h = refl
+half_passed g none (suc form) h = sym none
+
 pub sound_at : (key : ℕ) (ss : List SeatSeen) → AllSeats Steady ss → IsHeldSound (held_at key ss)
 sound_at key [] h = tt
 sound_at key (s ∷ ss) h =
     let r = sound_at key ss h.1 in
-    elim (s.key == key) as (λ b. IsHeldSound (if b then s.seen.held else held_at key ss))
-    [ true ↦ h.0.0.held | false ↦ r ]
+    elim (s.key == key) as (λ b. IsHeldSound (if b then half_of s.seen else held_at key ss))
+    [ true ↦ half_sound s.seen.form s.seen.held h.0.0.held | false ↦ r ]
 
 -- an addition or a move changes each record
 pub heard_held : (key : ℕ) (f : Seen → Seen) (g : Held → Held)
-    → ((s : Seen) → (f s).held ≡ g s.held) → g Nothing ≡ Nothing → (ss : List SeatSeen)
+    → ((s : Seen) → (f s).held ≡ g s.held) → ((s : Seen) → (f s).form ≡ s.form)
+    → g Nothing ≡ Nothing → (ss : List SeatSeen)
     → held_at key (seats_heard f ss) ≡ g (held_at key ss)
-heard_held key f g each none [] = sym none
-heard_held key f g each none (s ∷ ss) =
-    let r = heard_held key f g each none ss in
+heard_held key f g each same none [] = sym none
+heard_held key f g each same none (s ∷ ss) =
+    let r = heard_held key f g each same none ss in
+    let form = same s.seen in
+    let held = each s.seen in
     elim (s.key == key) as (λ b.
-    (if b then (f s.seen).held else held_at key (seats_heard f ss))
-    ≡ g (if b then s.seen.held else held_at key ss)) [ true ↦ each s.seen | false ↦ r ]
+    (if b then half_of (f s.seen) else held_at key (seats_heard f ss))
+    ≡ g (if b then half_of s.seen else held_at key ss)) [
+      | true ↦
+          (λ i. half_held (form i) (held i)) ∙ half_passed g none s.seen.form s.seen.held
+      | false ↦ r
+    ]
 
 heard_kind : (key : ℕ) (f : Seen → Seen) → ((s : Seen) → (f s).kind ≡ s.kind)
     → (ss : List SeatSeen) → kind_at key (seats_heard f ss) ≡ kind_at key ss
@@ -70,9 +89,10 @@ heard_kind key f each (s ∷ ss) =
     (if b then (f s.seen).kind else kind_at key (seats_heard f ss))
     ≡ (if b then s.seen.kind else kind_at key ss)) [ true ↦ each s.seen | false ↦ r ]
 
-lost_held : (loss : Loss) (s : Seen) → (losses.lost loss s).held ≡ held_noticed (Loses loss) s.held
-lost_held (Erase f) s = refl
-lost_held Clear s = refl
+lost_held : (loss : Loss) (s : Seen)
+    → half_of (losses.lost loss s) ≡ held_noticed (Loses loss) (half_of s)
+lost_held (Erase f) s = half_passed (held_erased f) refl s.form s.held
+lost_held Clear s = half_passed held_cleared refl s.form s.held
 
 lost_kind : (loss : Loss) (s : Seen) → (losses.lost loss s).kind ≡ s.kind
 lost_kind (Erase f) s = refl
@@ -100,11 +120,12 @@ module _ (loss : Loss) (key : ℕ) where
       elim (s.key == key) as (λ b. (s.key == key) ≡ b
       → (if b then s.seen.kind else kind_at key ss) ≡ Map
       → held_at key (stayers loss (s ∷ ss))
-      ≡ held_noticed (Loses loss) (if b then s.seen.held else held_at key ss)) [
+      ≡ held_noticed (Loses loss) (if b then half_of s.seen else held_at key ss)) [
         | true ↦ λ e n.
             ap (λ b. held_at key (if b then stayers loss ss else hears ∷ stayers loss ss))
             (map_stays loss s.seen n)
-            ∙ ap (λ b. if b then (losses.lost loss s.seen).held else held_at key (stayers loss ss))
+            ∙ ap (λ b. if b then half_of (losses.lost loss s.seen) else held_at key
+            (stayers loss ss))
             e
             ∙ lost_held loss s.seen
         | false ↦ λ e n.
@@ -114,7 +135,7 @@ module _ (loss : Loss) (key : ℕ) where
             ≡ held_noticed (Loses loss) (held_at key ss)) [
               | true ↦ r
               | false ↦
-                  ap (λ b. if b then (losses.lost loss s.seen).held else held_at key
+                  ap (λ b. if b then half_of (losses.lost loss s.seen) else held_at key
                   (stayers loss ss))
                   e ∙ r
             ]
@@ -149,9 +170,9 @@ module _ (loss : Loss) (key : ℕ) where
 pub held_next : (n : Notice) (live : List Fact) → CanHear n live → (key : ℕ) (ss : List SeatSeen)
     → kind_at key ss ≡ Map → held_at key (seats_noticed n ss) ≡ held_noticed n (held_at key ss)
 held_next (Tells (Add f)) live can key ss m =
-    heard_held key (told (Add f)) (held_added f) (λ s. refl) refl ss
+    heard_held key (told (Add f)) (held_added f) (λ s. refl) (λ s. refl) refl ss
 held_next (Tells (Shift old now)) live can key ss m =
-    heard_held key (told (Shift old now)) (held_shifted old now) (λ s. refl) refl ss
+    heard_held key (told (Shift old now)) (held_shifted old now) (λ s. refl) (λ s. refl) refl ss
 held_next (Tells (Build all)) live can key ss m = absurd can
 held_next (Loses loss) live can key ss m = held_stays loss key ss m
 

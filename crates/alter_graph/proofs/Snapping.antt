@@ -28,7 +28,8 @@ use Rattle.notify_chain.specs.Seats.{SeatSeen, AllSeats, seat_key, find_seat}
 use Rattle.alter_graph.specs.declared.snaps.SnapKeys.{SnapKeys}
 use Rattle.alter_graph.specs.Chains.{ChainsSeen, ChainSeen, in_chain}
 use Rattle.alter_graph.specs.Present.{Present, present_of}
-use Rattle.alter_graph.specs.Snaps.{Saved, IsHalfSeat, kept_of, held_at, kind_at, IsHalf, HasEnds}
+use Rattle.alter_graph.specs.Snaps.{Saved, IsHalfSeat, kept_of, half_of, held_at, kind_at}
+use Rattle.alter_graph.specs.Snaps.{IsHalf, HasEnds}
 use Rattle.alter_graph.specs.Snaps.{Apart, AllApart, IsBelow}
 use Rattle.alter_graph.specs.Snaps.{OwnStamps, saved_by, is_valid, saved_arcs, IsSnap, SnapsHold}
 use Rattle.alter_graph.specs.State.{State, Stands, InStep, IsInStep}
@@ -44,12 +45,12 @@ use Rattle.alter_graph.proofs.Reseated.{seated_in_step}
 -- ---- a seat by its key
 
 pub held_found : (key : ℕ) (ss : List SeatSeen) (seat : SeatSeen) → find_seat key ss ≡ Some seat
-    → held_at key ss ≡ seat.seen.held
+    → held_at key ss ≡ half_of seat.seen
 held_found key [] seat e = cc
 held_found key (s ∷ ss) seat e =
     elim (s.key == key) as (λ b. (if b then Some s else find_seat key ss) ≡ Some seat
-    → (if b then s.seen.held else held_at key ss) ≡ seat.seen.held) [
-      | true ↦ λ q. let m : s ≡ seat = cc in ap (λ (x : SeatSeen). x.seen.held) m
+    → (if b then half_of s.seen else held_at key ss) ≡ half_of seat.seen) [
+      | true ↦ λ q. let m : s ≡ seat = cc in ap (λ (x : SeatSeen). half_of x.seen) m
       | false ↦ λ q. held_found key ss seat q
     ] e
 
@@ -58,7 +59,7 @@ pub held_missing : (key : ℕ) (ss : List SeatSeen) → find_seat key ss ≡ Non
 held_missing key [] e = refl
 held_missing key (s ∷ ss) e =
     elim (s.key == key) as (λ b. (if b then Some s else find_seat key ss) ≡ None
-    → (if b then s.seen.held else held_at key ss) ≡ Nothing) [
+    → (if b then half_of s.seen else held_at key ss) ≡ Nothing) [
       | true ↦ λ q. cc
       | false ↦ λ q. held_missing key ss q
     ] e
@@ -74,13 +75,13 @@ valid_unless_half (Ties ties) n = refl
 
 -- the newest seat, whose key is new
 pub held_last : (key : ℕ) (ss : List SeatSeen) (seat : SeatSeen) → find_seat key ss ≡ None
-    → seat.key ≡ key → held_at key (ss ++ seat ∷ []) ≡ seat.seen.held
+    → seat.key ≡ key → held_at key (ss ++ seat ∷ []) ≡ half_of seat.seen
 held_last key [] seat new name =
     let same : (seat.key == key) ≡ true = grind (arith, common_steps, name) in
-    ap (λ b. if b then seat.seen.held else Nothing) same
+    ap (λ b. if b then half_of seat.seen else Nothing) same
 held_last key (s ∷ ss) seat new name =
     elim (s.key == key) as (λ b. (if b then Some s else find_seat key ss) ≡ None
-    → (if b then s.seen.held else held_at key (ss ++ seat ∷ [])) ≡ seat.seen.held) [
+    → (if b then half_of s.seen else held_at key (ss ++ seat ∷ [])) ≡ half_of seat.seen) [
       | true ↦ λ q. cc
       | false ↦ λ q. held_last key ss seat q name
     ] new
@@ -238,13 +239,13 @@ module _ (s : State) (d : ChainsSeen) (name : SnapKeys) (node arc : Watched) (at
   node_held =
       ap (held_at name.nodes.0) h.nodes.last
       ∙ held_last name.nodes.0 s.chains.nodes.seats h.nodes.seat h.nodes.is_new h.nodes.name
-      ∙ ap (λ (x : Seen). x.held) node_seen
+      ∙ ap half_of node_seen
 
   arc_held : held_at name.arcs.0 d.arcs.seats ≡ Half [] (length (facts s.graph sorts.Arc)) [] true
   arc_held =
       ap (held_at name.arcs.0) h.arcs.last
       ∙ held_last name.arcs.0 s.chains.arcs.seats h.arcs.seat h.arcs.is_new h.arcs.name
-      ∙ ap (λ (x : Seen). x.held) arc_seen
+      ∙ ap half_of arc_seen
 
   made_valid : is_valid name d ≡ true
   made_valid = λ i. saved.is_valid (node_held i) && saved.is_valid (arc_held i)

@@ -10,7 +10,7 @@ use Rattle.observe_core.specs.Fits.{HeldFits}
 use Rattle.notify_chain.specs.Seats.{seat_from, put_seat}
 use Rattle.notify_chain.specs.Lending.{chain_with}
 use Rattle.alter_graph.specs.Chains.{ChainsOf, chains_seen, seats_in, in_chain}
-use Rattle.alter_graph.specs.Snaps.{IsHalf}
+use Rattle.alter_graph.specs.Snaps.{half_of, IsHalf}
 use Rattle.alter_graph.specs.Attaching.{with_seats}
 use Rattle.alter_graph.specs.State.{AlterOf, state_of, IsInStep, SnapsStay}
 use Rattle.alter_graph.specs.contracts.chains.Chains as chains
@@ -59,7 +59,7 @@ pub record Rewrites (live : List Fact) (old new : Seen) : Type 0 where
   pub erased : new.erased ≡ old.erased
   pub moved : new.moved ≡ old.moved
   pub held : HeldFits old.held live → HeldFits new.held live
-  pub half : IsHalf old.held → new.held ≡ old.held
+  pub half : IsHalf (half_of old) → half_of new ≡ half_of old
 
 -- the observer of the seat was written: it alone is another one, and where it still stands for the
 -- live items of its sort, all stays in step, and so do the snapshots

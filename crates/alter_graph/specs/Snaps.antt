@@ -1,5 +1,6 @@
 -- Snapshots: a half in each chain, what both save, and the law of them.
-use Rattle.std.specs.Prelude.{◌≡◌, ◌≢◌, ℕ, ◌<◌, Bool, true, false, not, ◌&&◌, ◌==◌, IsTrue}
+use Rattle.std.specs.Prelude.{◌≡◌, ◌≢◌, ℕ, zero, suc, ◌<◌, Bool, true, false, not, ◌&&◌, ◌==◌}
+use Rattle.std.specs.Prelude.{IsTrue}
 use Rattle.std.specs.Prelude.{if◌then◌else◌, List, [], ◌∷◌, ◌++◌}
 use Rattle.std.specs.List.{list_any}
 use Rattle.base_items.specs.declared.items.Fact.{Fact}
@@ -11,15 +12,24 @@ use Rattle.plain_digraph.specs.PlainSteps.{PlainStep, EraseArc, EraseNode, Clear
 use Rattle.observe_core.specs.Items.{has_id}
 use Rattle.observe_core.specs.Held.{Held, Nothing, Values, Degree, Half, Kept, Ties}
 use Rattle.observe_core.specs.Saved as saved
+use Rattle.observe_core.specs.Seen.{Seen}
 use Rattle.notify_chain.specs.Seats.{SeatSeen}
 use Rattle.alter_graph.specs.declared.snaps.SnapKeys.{SnapKeys}
 use Rattle.alter_graph.specs.Chains.{ChainsSeen}
 use Rattle.alter_graph.specs.Present.{Present}
 
--- what the seat of a key holds
+-- what is held by the form of a half by itself, which is 0; what has another form is no half
+abbrev pub half_held : ℕ → Held → Held
+half_held zero held = held
+half_held (suc n) held = Nothing
+
+abbrev pub half_of : Seen → Held
+half_of s = half_held s.form s.held
+
+-- what the seat of a key holds by the form of a half
 abbrev pub held_at : ℕ → List SeatSeen → Held
 held_at key [] = Nothing
-held_at key (s ∷ ss) = if s.key == key then s.seen.held else held_at key ss
+held_at key (s ∷ ss) = if s.key == key then half_of s.seen else held_at key ss
 
 -- its kind
 abbrev pub kind_at : ℕ → List SeatSeen → Kind

@@ -21,17 +21,17 @@ use std::alloc::Global;
 pub trait HoldsHalf: Observer {
     ghost use Rattle.std.specs.Prelude.{◌≡◌, IfSome, IfNone};
     ghost use Rattle.snap_shots.specs.HalfViews.{half_seen};
-    ghost use Rattle.alter_graph.specs.Snaps.{IsHalf};
+    ghost use Rattle.alter_graph.specs.Snaps.{half_of, IsHalf};
 
-    /// The observer that is this half.
+    /// The observer that is this half, seen as the half is by itself.
     fn from_half(half: Half) -> Self
         ensures { (Self.watch result).seen ≡ half_seen half };
 
-    /// The half that it is.
+    /// The half that it is. None exactly where it isn't one: something with another form may hold a
+    /// half, but isn't one.
     fn half(&self) -> Option<&Half>
-        ensures some { IfSome result (λ h. (half_seen h.now).held
-            ≡ (Self.watch self.now).seen.held) }
-        ensures none { IfNone result (IsHalf (Self.watch self.now).seen.held → ⊥) };
+        ensures some { IfSome result (λ h. half_seen h.now ≡ (Self.watch self.now).seen) }
+        ensures none { IfNone result (IsHalf (half_of (Self.watch self.now).seen) → ⊥) };
 }
 
 /// Whether the half at a key is valid.

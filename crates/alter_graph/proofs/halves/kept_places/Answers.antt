@@ -1,7 +1,7 @@
 use Rattle.std.proofs.Common.{Result, Ok, Err, IfOk, map, sym, ap, ◌∙◌}
 use Rattle.notify_chain.specs.Seats.{seats}
 use Rattle.plain_digraph.specs.PlainSteps.{PlaceBack}
-use Rattle.alter_graph.specs.Snaps.{kept_of}
+use Rattle.alter_graph.specs.Snaps.{half_of, kept_of}
 use Rattle.alter_graph.specs.Steps.{plain_steps}
 use Rattle.alter_graph.proofs.Snapping.{held_found, held_missing}
 use Rattle.alter_graph.proofs.KeptWalk.{keeps_none}
@@ -17,7 +17,7 @@ returns-in-Some-half g c =
     let ss = seats g.O.Observer.watch c.args.chain.now in
     let o = g.O.Observer.watch c.in-Some.o.now in
     if_ok c.gather.result (λ x h. h ∙ ap (λ x. map PlaceBack (kept_of x))
-    (c.in-Some-half.ensures.some ∙ sym (held_found c.args.key.0 ss
+    (ap half_of c.in-Some-half.ensures.some ∙ sym (held_found c.args.key.0 ss
     (record { key = c.args.key.0; seen = o.seen; room = o.room; reach = o.reach })
     (sym c.in-Some.ensures)))) c.gather.ensures
 
@@ -26,7 +26,7 @@ returns-in-None-half g c =
     let ss = seats g.O.Observer.watch c.args.chain.now in
     let o = g.O.Observer.watch c.in-Some.o.now in
     ap plain_steps c.new.ensures.items
-    ∙ ap (map PlaceBack) (keeps_none o.seen.held c.in-None-half.ensures.none
+    ∙ ap (map PlaceBack) (keeps_none (half_of o.seen) c.in-None-half.ensures.none
     ∙ ap kept_of (sym (held_found c.args.key.0 ss
     (record { key = c.args.key.0; seen = o.seen; room = o.room; reach = o.reach })
     (sym c.in-Some.ensures))))
