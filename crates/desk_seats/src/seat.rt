@@ -8,16 +8,17 @@ use snap_shots::Half;
 use value_maps::{BoolMap, IntMap, TextMap};
 
 /// An observer of a world. Its form is the place of its variant, from 0; else contracts see of it
-/// what they see of what it holds. `B` is the place of a boxed observer.
+/// what they see of what it holds. A half is first, so that it has the form of a half by itself.
+/// `B` is the place of a boxed observer.
 #[derive(Drop)]
 pub enum Seat<B> {
+    Half(Half),
     Ints(IntMap),
     Bools(BoolMap),
     Texts(TextMap),
     Refs(CrossRef),
     Degrees(Degree),
     Trues(TrueItems),
-    Half(Half),
     KeptNodes(KeptNodes),
     KeptArcs(KeptArcs),
     Ties(Ties),
@@ -28,13 +29,13 @@ pub enum Seat<B> {
 macro_rules! held {
     ($seat:expr, $it:ident => $call:expr) => {
         match $seat {
+            Seat::Half($it) => $call,
             Seat::Ints($it) => $call,
             Seat::Bools($it) => $call,
             Seat::Texts($it) => $call,
             Seat::Refs($it) => $call,
             Seat::Degrees($it) => $call,
             Seat::Trues($it) => $call,
-            Seat::Half($it) => $call,
             Seat::KeptNodes($it) => $call,
             Seat::KeptArcs($it) => $call,
             Seat::Ties($it) => $call,
@@ -44,26 +45,27 @@ macro_rules! held {
 }
 
 impl<B: Observer> Observer for Seat<B> {
+    ghost use Rattle.desk_seats.specs.Forms as form;
     ghost use Rattle.desk_seats.specs.Forms.{formed};
+    ghost use Rattle.desk_seats.specs.declared.seat.Seat.TheVariants.{Half as Halves};
     ghost use Rattle.desk_seats.specs.declared.seat.Seat.TheVariants.{Ints, Bools, Texts, Refs};
     ghost use Rattle.desk_seats.specs.declared.seat.Seat.TheVariants.{Degrees, Trues};
-    ghost use Rattle.desk_seats.specs.declared.seat.Seat.TheVariants.{Half as Halves};
     ghost use Rattle.desk_seats.specs.declared.seat.Seat.TheVariants.{KeptNodes as Nodes};
     ghost use Rattle.desk_seats.specs.declared.seat.Seat.TheVariants.{KeptArcs as Arcs};
     ghost use Rattle.desk_seats.specs.declared.seat.Seat.TheVariants.{Ties as Tied, Boxed};
 
     ghost watch = { elim [
-      | Ints o ↦ formed 0 (⟦<IntMap as Observer>⟧.watch o)
-      | Bools o ↦ formed 1 (⟦<BoolMap as Observer>⟧.watch o)
-      | Texts o ↦ formed 2 (⟦<TextMap as Observer>⟧.watch o)
-      | Refs o ↦ formed 3 (⟦<CrossRef as Observer>⟧.watch o)
-      | Degrees o ↦ formed 4 (⟦<Degree as Observer>⟧.watch o)
-      | Trues o ↦ formed 5 (⟦<TrueItems as Observer>⟧.watch o)
-      | Halves o ↦ formed 6 (⟦<Half as Observer>⟧.watch o)
-      | Nodes o ↦ formed 7 (⟦<KeptNodes as Observer>⟧.watch o)
-      | Arcs o ↦ formed 8 (⟦<KeptArcs as Observer>⟧.watch o)
-      | Tied o ↦ formed 9 (⟦<Ties as Observer>⟧.watch o)
-      | Boxed b ↦ formed 10 (B.watch b)
+      | Halves o ↦ formed form.half_form (⟦<Half as Observer>⟧.watch o)
+      | Ints o ↦ formed form.ints_form (⟦<IntMap as Observer>⟧.watch o)
+      | Bools o ↦ formed form.bools_form (⟦<BoolMap as Observer>⟧.watch o)
+      | Texts o ↦ formed form.texts_form (⟦<TextMap as Observer>⟧.watch o)
+      | Refs o ↦ formed form.labels_form (⟦<CrossRef as Observer>⟧.watch o)
+      | Degrees o ↦ formed form.degrees_form (⟦<Degree as Observer>⟧.watch o)
+      | Trues o ↦ formed form.trues_form (⟦<TrueItems as Observer>⟧.watch o)
+      | Nodes o ↦ formed form.nodes_form (⟦<KeptNodes as Observer>⟧.watch o)
+      | Arcs o ↦ formed form.arcs_form (⟦<KeptArcs as Observer>⟧.watch o)
+      | Tied o ↦ formed form.ties_form (⟦<Ties as Observer>⟧.watch o)
+      | Boxed b ↦ formed form.boxed_form (B.watch b)
     ] };
 
     fn kind(&self) -> Kind {
