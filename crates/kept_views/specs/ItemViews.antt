@@ -29,3 +29,9 @@ abbrev pub marked_set : ℕ → Marks → List Marked → List Marked
 marked_set id m [] = []
 marked_set id m (x ∷ xs) =
     (if x.fact.id == id then with_marks m x.fact else x) ∷ marked_set id m xs
+
+-- the marks of the item of the id
+abbrev pub marks_in : ℕ → List Marked → Marks
+marks_in id [] = no_marks
+marks_in id (x ∷ xs) =
+    if x.fact.id == id then marks x.shown x.forward x.backward else marks_in id xs

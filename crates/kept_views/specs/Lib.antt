@@ -1,3 +1,9 @@
 pub mod ItemViews
 pub mod Views
+pub mod Order
+pub mod Listed
+pub mod Ordered
+pub mod OrderedProp
+pub mod Reaching
 pub mod Sound
+pub mod Walks

@@ -10,11 +10,13 @@ use Rattle.observe_core.specs.Seen.{IsSound, need, facts_of_marked}
 use Rattle.observe_core.proofs.ItemLemmas.{and_left, and_right}
 use Rattle.observe_core.proofs.SoundLemmas.{map_sound}
 use Rattle.fact_table.specs.Table.{facts_of}
-use Rattle.fact_table.specs.TableFacts.{table-rises, table-reach}
+use Rattle.fact_table.specs.TableFacts.{table-rises}
 use Rattle.kept_views.specs.declared.items.Marks.{Marks}
 use Rattle.kept_views.specs.declared.nodes.KeptNodes.{KeptNodes}
 use Rattle.kept_views.specs.declared.arcs.KeptArcs.{KeptArcs}
 use Rattle.kept_views.specs.ItemViews.{marked}
+use Rattle.kept_views.specs.Ordered.{reach_of}
+use Rattle.kept_views.specs.Reaching.{reaches}
 use Rattle.kept_views.specs.Views.{nodes_of, nodes_seen, arcs_of, arcs_seen}
 
 marks-rise : (ms : List Marks) (low : ℕ) (fs : List Fact) → IsTrue (rises_from fact_id low fs)
@@ -42,9 +44,10 @@ pub arcs-sound : (k : KeptArcs) → IsSound (arcs_seen k)
 arcs-sound k = map_sound (Kept (ArcsRole k.shape) k.items.all (arcs_of k))
     (marks-rise k.items.marks.items 0 (facts_of k.items.table) (table-rises k.items.table))
 
-pub arcs-reach : (k : KeptArcs) → need (arcs_seen k) ≤ 4194304
+pub arcs-reach : (k : KeptArcs) → need (arcs_seen k) ≤ reach_of k.items.orders
 arcs-reach k =
-    let r = table-reach k.items.table in
-    let e = ap (λ l. above_all (ends_of l))
-    (marked-facts k.items.marks.items (facts_of k.items.table)) in
+    let os = k.items.orders in
+    let fs = facts_of k.items.table in
+    let r = reaches os fs k.by_ends k.items.ordered in
+    let e = ap (λ l. above_all (ends_of l)) (marked-facts k.items.marks.items fs) in
     omega (arith, r, e)

@@ -1,15 +1,21 @@
 //! The arcs of a kept view.
 
+ghost use Rattle.std.specs.Prelude.{IsTrue};
+ghost use Rattle.kept_views.specs.Ordered.{listings, are_by_ends};
+
 use crate::items::{KeptItems, Marks};
+use crate::orders::Orders;
 use base_items::Fact;
 use observe_core::{After, KeptShape, Kind, Observer, Readout, Veto};
 use std::alloc::Global;
 
-/// The arcs of a kept view, each with how it is shown: an observer of the arc chain.
+/// The arcs of a kept view, each with how it is shown: an observer of the arc chain. They stand in
+/// lists by source and by target, so that no walk looks at other nodes' arcs.
 #[derive(Drop)]
 pub struct KeptArcs {
     shape: KeptShape,
-    items: KeptItems,
+    pub(crate) items: KeptItems,
+    ghost by_ends: { IsTrue (are_by_ends (listings items.orders)) },
 }
 
 impl KeptArcs {
@@ -26,7 +32,7 @@ impl KeptArcs {
     {
         KeptArcs {
             shape,
-            items: KeptItems::new(all, alloc),
+            items: KeptItems::new(all, Orders::by_ends(alloc), alloc),
         }
     }
 
@@ -51,12 +57,13 @@ impl KeptArcs {
 
 impl Observer for KeptArcs {
     ghost use Rattle.kept_views.specs.Views.{arcs_seen};
+    ghost use Rattle.kept_views.specs.Ordered.{reach_of};
     ghost use Rattle.kept_views.specs.Sound.{arcs-sound, arcs-reach};
 
     ghost watch = { λ k. record {
       seen = arcs_seen k;
       room = 0;
-      reach = 4194304;
+      reach = reach_of k.items.orders;
       sound = arcs-sound k;
       reaches = arcs-reach k;
     } };
@@ -93,13 +100,17 @@ impl Observer for KeptArcs {
 
     fn shift(&mut self, old: Fact, new: Fact) -> Result<(), Veto> {
         let _ = old;
-        self.items.exchange(new);
-        Ok(())
+        match self.items.exchange(new) {
+            Ok(()) => Ok(()),
+            Err(_) => Err(Veto::Memory),
+        }
     }
 
     fn undo_shift(&mut self, old: Fact, new: Fact) {
         let _ = new;
-        self.items.exchange(old);
+        if self.items.exchange(old).is_err() {
+            unreachable!();
+        }
     }
 
     fn build(&mut self, all: &[Fact]) -> Result<(), Veto> {

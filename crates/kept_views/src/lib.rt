@@ -3,7 +3,11 @@
 
 mod arcs;
 mod items;
+mod listing;
 mod nodes;
+mod order;
+mod orders;
+mod walks;
 
 pub use arcs::KeptArcs;
 pub use nodes::KeptNodes;

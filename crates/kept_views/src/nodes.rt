@@ -1,14 +1,20 @@
 //! The nodes of a kept view.
 
+ghost use Rattle.std.specs.Prelude.{IsTrue};
+ghost use Rattle.kept_views.specs.Ordered.{listings, is_whole};
+
 use crate::items::{KeptItems, Marks};
+use crate::orders::Orders;
 use base_items::Fact;
 use observe_core::{After, Kind, Observer, Readout, Veto};
 use std::alloc::Global;
 
-/// The nodes of a kept view, each with whether it is shown: an observer of the node chain.
+/// The nodes of a kept view, each with whether it is shown: an observer of the node chain. They
+/// stand in one list.
 #[derive(Drop)]
 pub struct KeptNodes {
-    items: KeptItems,
+    pub(crate) items: KeptItems,
+    ghost whole: { IsTrue (is_whole (listings items.orders)) },
 }
 
 impl KeptNodes {
@@ -23,7 +29,7 @@ impl KeptNodes {
         ensures { nodes_seen result ≡ holding_nodes all [] }
     {
         KeptNodes {
-            items: KeptItems::new(all, alloc),
+            items: KeptItems::new(all, Orders::whole(alloc), alloc),
         }
     }
 
@@ -89,13 +95,17 @@ impl Observer for KeptNodes {
 
     fn shift(&mut self, old: Fact, new: Fact) -> Result<(), Veto> {
         let _ = old;
-        self.items.exchange(new);
-        Ok(())
+        match self.items.exchange(new) {
+            Ok(()) => Ok(()),
+            Err(_) => Err(Veto::Memory),
+        }
     }
 
     fn undo_shift(&mut self, old: Fact, new: Fact) {
         let _ = new;
-        self.items.exchange(old);
+        if self.items.exchange(old).is_err() {
+            unreachable!();
+        }
     }
 
     fn build(&mut self, all: &[Fact]) -> Result<(), Veto> {

@@ -25,6 +25,8 @@ loop-f-init c =
     ∙ ap facts_of_marked e in
     record {
       all = refl;
+      listings = refl;
+      reach = omega arith;
       target = ap (place_all marked_id (map (new_marked self.all) c.args.all.now)) e;
       fresh = subst (Fresh c.args.all.now) (sym f)
           (fresh-start c.args.all.now c.requires.distinct c.requires.bounded);
@@ -48,6 +50,8 @@ loop-f-preserved c =
     was.target in
     record {
       all = c.in-Ok.ensures.all ∙ was.all;
+      listings = c.in-Ok.ensures.listings ∙ was.listings;
+      reach = let a = c.in-Ok.ensures.reach in let b = was.reach in omega (arith, a, b);
       target = ap (place_all marked_id rest) e ∙ t;
       fresh = fill-fresh fs i no_fact l now (facts_of c.put.new.self.table) c.in-Ok.ensures.facts
           was.fresh;
