@@ -1,5 +1,6 @@
 pub mod Tokens
 pub mod LineWords
+pub mod WordsSoFar
 pub mod Found
 pub mod RowWords
 pub mod NameLists

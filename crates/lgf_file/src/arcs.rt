@@ -155,7 +155,7 @@ fn take_arc(
     let Some((from, to)) = ends_of(nodes, row) else {
         return Ok(Some(LgfKind::UnknownLabel));
     };
-    let values = values_of(cells);
+    let values = values_of(cells)?;
     if insert_label(alloc, head, labels, values.as_slice())? {
         return Ok(Some(LgfKind::TwiceLabel));
     }
@@ -164,15 +164,13 @@ fn take_arc(
     Ok(None)
 }
 
-// The tokens of an arc behind its source and its target.
-fn values_of(cells: Vec<Text>) -> Vec<Text>
+// The tokens of an arc behind its source and its target, in a vector without more room.
+fn values_of(cells: Vec<Text>) -> Result<Vec<Text>, AllocError>
     requires { 2 ≤ length cells.items }
-    ensures { result.items ≡ faults.values_of cells.items }
+    ensures { IfOk result (λ values. values.items ≡ faults.values_of cells.items) }
 {
-    let mut values = cells;
-    values.remove(0);
-    values.remove(0);
-    values
+    let mut cells = cells;
+    cells.split_off(2)
 }
 
 impl<'a> RowReader for ArcReader<'a> {

@@ -99,10 +99,12 @@ pub fn read_rows<R: RowReader>(
 {
     let mut rest = bytes;
     let mut at = number;
+    let mut width = 0;
     'rows: while let Some(row) = next_row(rest, at) {
-        let Some(cells) = read_words(alloc, row.line)? else {
+        let Some(cells) = read_words(alloc, row.line, width)? else {
             return Err(fault_at(row.number, LgfKind::Token));
         };
+        width = cells.len();
         if let Some(kind) = reader.take(alloc, cells)? {
             return Err(fault_at(row.number, kind));
         }

@@ -19,7 +19,7 @@ returns-then-branch-clause-fault c =
     ∙ ap (width_fault (2 + length head.columns)) row.ensures.value) in
     let ends = subst (λ own. IsEnds nodes own c.in-Some-ends_of.from c.in-Some-ends_of.to)
     row.ensures.value c.in-Some-ends_of.ensures.found in
-    let values = c.as_slice.ensures.value ∙ c.values_of-values.ensures in
+    let values = c.as_slice.ensures.value ∙ c.in_ok-values.ensures in
     let twice =
     ap (is_label_among head.columns labels) (sym values) ∙ sym c.in_ok-insert_label.ensures.twice
     ∙ c.if-branch.true in
@@ -50,7 +50,7 @@ module _ (c : goal.In_ok-push) where
 pub returns-clause-fault : goal.returns-clause-fault
 returns-clause-fault c =
     let head = c.args.head.now in
-    let values = c.as_slice.ensures.value ∙ c.values_of-values.ensures in
+    let values = c.as_slice.ensures.value ∙ c.in_ok-values.ensures in
     sym (arc_fault_is c.args.nodes.now head c.args.arcs.now.items c.args.labels.now c.requires
     (room c)
     c.args.cells.items (wide c) _ _ (ends c) _
@@ -66,7 +66,7 @@ returns-clause-sound c =
     (arc_behind nodes head c.args.arcs.now.items labels c.requires (room c) c.args.cells.items
     (wide c)
     _ _ (ends c) c.from_vec-values.result c.insert_label.new.labels
-    (c.from_vec-values.ensures ∙ c.values_of-values.ensures)
+    (c.from_vec-values.ensures ∙ c.in_ok-values.ensures)
     (ap (is_label_among head.columns labels) values ∙ apart c)
     (OnFalse_at c.if-branch.false c.in_ok-insert_label.ensures.labels
     ∙ ap (labels_with head.columns labels) (sym values)))

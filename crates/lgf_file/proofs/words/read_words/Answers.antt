@@ -1,25 +1,40 @@
-use Rattle.std.proofs.Common.{sym, ap, ◌∙◌, subst}
-use Rattle.std.proofs.lemmas.List.{map-id}
-use Rattle.std.proofs.lemmas.Iterator.Adapters.{YieldsList-from_vec}
-use Rattle.std.proofs.lemmas.Iterator.Consumers.{YieldsList-end}
-use Rattle.lgf_file.specs.Rows.{Words}
-use Rattle.lgf_file.proofs.LineWords.{cells_of, has_words, no_words}
+use Rattle.std.proofs.Common.{inl, inr, subst, arith}
+use Rattle.token_text.specs.Results.{Found, Faults}
+use Rattle.token_text.proofs.Places.{reads_on}
+use Rattle.lgf_file.proofs.WordsSoFar.{words_more, words_end, words_stop}
 use Rattle.lgf_file.proofs.words.read_words.Goals as goal
 
-pub returns-then-is_some-clause-none : goal.returns-then-is_some-clause-none
-returns-then-is_some-clause-none c =
-    no_words c.args.line.now 0 _ _ c.in_ok-read.ensures.tokens (sym c.is_some.ensures
-    ∙ c.if-is_some.true)
-
-pub returns-clause-found : goal.returns-clause-found
-returns-clause-found c =
+pub tokens-smaller : goal.tokens-smaller
+tokens-smaller c =
     let line = c.args.line.now in
-    let tokens = c.in_ok-read.read.tokens in
-    let gives = c.into_iter-token-iterator.ensures.into_iter_gives in
-    let all = YieldsList-end (YieldsList-from_vec tokens.items gives.0 (gives.1 ∙ tokens.ok.0))
-    c.loop-token.yielded _ c.loop-token.yielded_by _ c.next.new.self c.in-None.is
-    c.next.ensures.steps in
-    let same = c.loop-token.invariant ∙ ap cells_of (sym (map-id c.loop-token.yielded) ∙ all.0) in
-    subst (Words line) (sym same)
-    (has_words line 0 tokens.items _ c.in_ok-read.ensures.tokens
-    (sym c.is_some.ensures ∙ c.if-is_some.false))
+    let found =
+    subst (Found line c.tokens.at) c.in-Ok-Some.field-0-is c.in-Ok-Some.ensures.found in
+    omega (arith, reads_on line c.tokens.at _ _ _ found, found.end_in)
+
+pub tokens-preserved : goal.tokens-preserved
+tokens-preserved c =
+    let line = c.args.line.now in
+    let found =
+    subst (Found line c.tokens.at) c.in-Ok-Some.field-0-is c.in-Ok-Some.ensures.found in
+    rw c.in_ok-push-in-Ok-Some.ensures.items
+    (words_more line c.tokens.at _ _ c.tokens.cells.items _ c.tokens.invariant found)
+
+pub returns-in-Ok-None-clause-found : goal.returns-in-Ok-None-clause-found
+returns-in-Ok-None-clause-found c =
+    let line = c.args.line.now in
+    words_end line c.tokens.at c.tokens.cells.items c.tokens.invariant
+    (subst (Found line c.tokens.at) c.in-Ok-None.field-0-is c.in-Ok-None.ensures.found)
+
+pub returns-in-Err-BadEscape-clause-none : goal.returns-in-Err-BadEscape-clause-none
+returns-in-Err-BadEscape-clause-none c =
+    let line = c.args.line.now in
+    words_stop line c.tokens.at _ c.tokens.cells.items c.tokens.invariant
+    (inl (subst (Faults line c.tokens.at) c.in-Err-BadEscape.field-0-is
+    c.in-Err-BadEscape.ensures.faults))
+
+pub returns-in-Err-OpenQuote-clause-none : goal.returns-in-Err-OpenQuote-clause-none
+returns-in-Err-OpenQuote-clause-none c =
+    let line = c.args.line.now in
+    words_stop line c.tokens.at _ c.tokens.cells.items c.tokens.invariant
+    (inr (subst (Faults line c.tokens.at) c.in-Err-OpenQuote.field-0-is
+    c.in-Err-OpenQuote.ensures.faults))

@@ -1,6 +1,9 @@
-use Rattle.std.proofs.Common.{◌≡◌}
-use Rattle.lgf_file.proofs.LineWords.{cells_of}
+use Rattle.std.proofs.Common.{◌-◌, length}
+use Rattle.lgf_file.proofs.WordsSoFar.{WordsSoFar}
 use Rattle.lgf_file.proofs.words.read_words.Given as goal
 
-abbrev pub invariant-loop-token : goal.invariant-loop-token
-invariant-loop-token l = l.cells.items ≡ cells_of l.yielded
+abbrev pub invariant-tokens : goal.invariant-tokens
+invariant-tokens l = WordsSoFar l.line l.at l.cells.items
+
+abbrev pub decreases-tokens : goal.decreases-tokens
+decreases-tokens l = length l.line - l.at
