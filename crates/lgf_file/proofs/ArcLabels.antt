@@ -3,7 +3,7 @@ use Rattle.std.proofs.Common.{◌≡◌, ℕ, Bool, true, false, List, [], ◌�
 use Rattle.std.specs.Bool.{OnFalse}
 use Rattle.std.specs.Prelude.{◌&&◌, not, if◌then◌else◌}
 use Rattle.std.specs.Str.{bytes_eq}
-use Rattle.std.proofs.lemmas.Bool.{false_from_ne_true, and_left, not-false, OnFalse_from}
+use Rattle.std.proofs.lemmas.Bool.{false_from_ne_true, not-false, OnFalse_from}
 use Rattle.std.proofs.lemmas.List.{map_push}
 use Rattle.std.proofs.lemmas.List.Folds.{list_any_at}
 use Rattle.std.proofs.lemmas.List.Quantifiers.{position-Some}
@@ -24,52 +24,39 @@ none_labelled columns none = false_from_ne_true (is_among label columns)
     (λ among. absurd (cc (sym (place_there columns among) ∙ none)))
 
 -- Where one has, one is.
-pub one_labelled : (columns : Cells) → (label_place columns ≡ None → ⊥)
+pub one_labelled : (columns : Cells) (place : ℕ) → label_place columns ≡ Some place
     → is_among label columns ≡ true
-one_labelled columns some = by_place (label_place columns) refl
-  where
-    by_place : (found : Option ℕ) → label_place columns ≡ found → is_among label columns ≡ true
-    by_place None is = absurd (some is)
-    by_place (Some place) is =
-        let first = position-Some (bytes_eq label) columns place [] is in
-        list_any_at (bytes_eq label) columns place [] first.0 first.1
+one_labelled columns place is =
+    let first = position-Some (bytes_eq label) columns place [] is in
+    list_any_at (bytes_eq label) columns place [] first.0 first.1
 
 -- Of an arc without a label none stood before, and nothing comes to the labels.
 module _ (columns labels values : Cells) (none : label_place columns ≡ None) where
   pub no_label_among : false ≡ is_label_among columns labels values
-  no_label_among =
-      sym (and_left (is_among label columns) (is_among (label_in columns values) labels)
-      (none_labelled columns none))
+  no_label_among = rw (none_labelled columns none) refl
 
   pub no_label_with : labels ≡ labels_with columns labels values
-  no_label_with =
-      sym (ap (λ test. if test then labels ++ label_in columns values ∷ [] else labels)
-      (none_labelled columns none))
+  no_label_with = rw (none_labelled columns none) refl
 
 -- The label of an arc is looked up among the labels, and comes to them where it is fresh.
-module _ (columns labels values : Cells) (name : List ℕ) (fresh : Bool)
-    (some : label_place columns ≡ None → ⊥) (is : name ≡ label_in columns values) where
+module _ (columns labels values : Cells) (name : List ℕ) (fresh : Bool) (place : ℕ)
+    (some : label_place columns ≡ Some place) (is : name ≡ label_in columns values) where
   pub label_among : fresh ≡ not (is_among name labels)
       → not fresh ≡ is_label_among columns labels values
   label_among fresh_is =
-      let among = by_test fresh (is_among name labels) fresh_is in
-      among ∙ ap (λ own. is_among own labels) is
-      ∙ sym (ap (λ test. test && is_among (label_in columns values) labels)
-      (one_labelled columns some))
+      rw (one_labelled columns place some, fresh_is) (by_test (is_among name labels) _
+      (ap (λ own. is_among own labels) is))
     where
-      by_test : (fresh among : Bool) → fresh ≡ not among → not fresh ≡ among
-      by_test fresh true is = ap not is
-      by_test fresh false is = ap not is
+      by_test : (among other : Bool) → among ≡ other → not (not among) ≡ other
+      by_test true other same = same
+      by_test false other same = same
 
   pub label_with : (after : Cells) → after ≡ (if fresh then labels ++ name ∷ [] else labels)
       → OnFalse (not fresh) (after ≡ labels_with columns labels values)
   label_with after after_is = OnFalse_from (not fresh) (after ≡ labels_with columns labels values)
-      (λ known.
-      after_is
+      (λ known. after_is
       ∙ ap (λ test. if test then labels ++ name ∷ [] else labels) (not-false fresh known)
-      ∙ ap (λ own. labels ++ own ∷ []) is
-      ∙ sym (ap (λ test. if test then labels ++ label_in columns values ∷ [] else labels)
-      (one_labelled columns some)))
+      ∙ rw (one_labelled columns place some) (ap (λ own. labels ++ own ∷ []) is))
 
 -- The label of an arc stood before where it is among the labels that were seen.
 pub label_fault : (nodes columns : Cells) (arcs : List Link) (values : Cells)

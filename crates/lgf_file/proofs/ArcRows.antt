@@ -15,7 +15,7 @@ use Rattle.lgf_file.specs.declared.documents.Link.{Link}
 use Rattle.lgf_file.specs.declared.heads.Head.{Head}
 use Rattle.lgf_file.specs.declared.faults.LgfKind.TheVariants.{UnknownLabel, TwiceLabel}
 use Rattle.lgf_file.proofs.NameLists.{among_at}
-use Rattle.lgf_file.proofs.NoFaults.{room_left, passed, width_is}
+use Rattle.lgf_file.proofs.RowFaults.{room_open, passed, width_is}
 use Rattle.lgf_file.proofs.ArcLabels.{label_fault, seen_push, differ_push}
 
 -- The source is no node.
@@ -55,8 +55,8 @@ module _ (nodes : Cells) (head : Head) (arcs : List Link) (labels : Cells)
   arc_fault_is twice twice_is =
       let rows = map (link_cells nodes) arcs in
       let columns = head.columns in
-      let few = room_left MAX_ARCS rows
-      (omega (arith, held.arcs_ok.few, length-map arcs (link_cells nodes))) in
+      let few = room_open MAX_ARCS rows (λ full.
+      room (sym (length-map arcs (link_cells nodes)) ∙ full)) in
       passed _ _ few ∙ passed _ _ wide ∙ passed _ _ (ends_known nodes cells from to ends)
       ∙ label_fault nodes columns arcs (values_of cells)
       ∙ ap (λ own. if is_label_among columns own (values_of cells) then Some TwiceLabel else None)

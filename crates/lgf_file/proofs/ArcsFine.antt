@@ -13,7 +13,7 @@ use Rattle.lgf_file.specs.declared.documents.Link.{Link}
 use Rattle.lgf_file.specs.declared.faults.LgfKind.TheVariants.{UnknownLabel, TwiceLabel}
 use Rattle.lgf_file.proofs.NameLists.{twice_front, among_at}
 use Rattle.lgf_file.proofs.InOrderRows.{made_in_order}
-use Rattle.lgf_file.proofs.NoFaults.{neither, room_left, width_right, not_twice, columns_right}
+use Rattle.lgf_file.proofs.RowFaults.{neither, room_open, width_right, not_twice, columns_right}
 use Rattle.lgf_file.proofs.Midst.{all_midst, fewer_front, made_midst}
 
 -- The first line of the arcs names their columns.
@@ -66,8 +66,8 @@ module _ (labels columns : Cells) (arcs : List Link) (right : AreArcs labels col
   arc_fine front arc more split =
       let rows = map (link_cells labels) front in
       let long = length-map front (link_cells labels) in
-      let room = room_left MAX_ARCS rows
-      (omega (arith, right.few, ap length split, fewer_front front arc more, long)) in
+      let room = room_open MAX_ARCS rows (λ full.
+      omega (arith, full, right.few, ap length split, fewer_front front arc more, long)) in
       let link = all_midst (IsLink labels columns) front arc more
       (subst (λ own. All (IsLink labels columns) own) split right.links) in
       let width =

@@ -1,23 +1,23 @@
 -- Rows of arcs that are in order are those of columns and arcs.
-use Rattle.std.proofs.Common.{◌≡◌, ◌+◌, ◌≤◌, ◌<◌, Bool, true, false, List, [], ◌∷◌, ◌++◌, length, map, Some, None, refl, sym, ap, ◌∙◌, subst, arith, append_assoc, append-nil}
-use Rattle.std.specs.Prelude.{if◌then◌else◌, ◌&&◌}
+use Rattle.std.proofs.Common.{◌≡◌, ◌+◌, ◌≤◌, ◌<◌, Bool, true, false, List, [], ◌∷◌, ◌++◌, length, map, None, refl, sym, ap, ◌∙◌, subst, arith}
+use Rattle.std.specs.Prelude.{if◌then◌else◌}
 use Rattle.std.proofs.lemmas.Bool.{and_parts}
-use Rattle.std.proofs.lemmas.List.{length-map, map_push}
+use Rattle.std.proofs.lemmas.List.{length-map}
 use Rattle.base_items.specs.declared.limits.TheConstants.{MAX_NODES, MAX_ARCS}
 use Rattle.token_text.specs.Names.{is_among}
 use Rattle.lgf_file.specs.Sections.{Line}
 use Rattle.lgf_file.specs.Rows.{Cells, Words, Rows}
 use Rattle.lgf_file.specs.Documents.{AreArcs, ArcsSpell, dash, label_at, label_place, link_cells, head_cells}
 use Rattle.lgf_file.specs.Faults.{arc_fault, arc_head_fault, arc_row_fault, columns_named, ends_fault, room_fault, width_fault, first_cell, second_cell, values_of}
-use Rattle.lgf_file.specs.Reading.{AllRead, InOrder}
+use Rattle.lgf_file.specs.Reading.{AllRead}
 use Rattle.lgf_file.specs.Readers.{HoldsArcs, IsEnds, labels_seen, labels_with, is_label_among}
 use Rattle.lgf_file.specs.declared.documents.Link.{Link}
 use Rattle.lgf_file.specs.declared.heads.Head.{Head}
 use Rattle.lgf_file.specs.declared.faults.LgfKind.TheVariants.{UnknownLabel, TwiceLabel}
 use Rattle.lgf_file.proofs.ArcHeads.{sole_dash}
 use Rattle.lgf_file.proofs.ArcRows.{arc_fault_is, arc_behind}
-use Rattle.lgf_file.proofs.NoFaults.{width_is}
-use Rattle.lgf_file.proofs.WithoutFault.{both_none, room_is, columns_are, among_place}
+use Rattle.lgf_file.proofs.InOrderRows.{items_from}
+use Rattle.lgf_file.proofs.RowFaults.{width_is, both_none, untold, held, room_is, columns_are, among_place}
 
 -- A line with a token is the first one of arcs with the columns that it names.
 head_named : (first : Cells) → 0 < length first → head_cells (columns_named first) ≡ first
@@ -42,26 +42,17 @@ ends_among : (nodes cells : Cells) → ends_fault nodes cells ≡ None
     → (is_among (first_cell cells) nodes ≡ true) × (is_among (second_cell cells) nodes ≡ true)
 ends_among nodes cells none =
     and_parts (is_among (first_cell cells) nodes) (is_among (second_cell cells) nodes)
-    (by_test (is_among (first_cell cells) nodes && is_among (second_cell cells) nodes) none)
-  where
-    by_test : (test : Bool) → (if test then None else Some UnknownLabel) ≡ None → test ≡ true
-    by_test true is = refl
-    by_test false is = absurd (cc)
+    (held UnknownLabel _ none)
 
 -- Arcs between these nodes, behind a line that names the columns.
 module _ (nodes : Cells) (few : length nodes ≤ MAX_NODES) (columns : Cells) where
   abbrev head : Head
   head = record { columns = columns; label_place = label_place columns }
 
-  -- One arc more.
-  record Next (before : List Link) (cells : Cells) : Type 0 where
-    arc : Link
-    is : link_cells nodes arc ≡ cells
-    right : AreArcs nodes columns (before ++ arc ∷ [])
-
   -- A row that isn't at fault is an arc more.
   next_arc : (before : List Link) (cells : Cells) → AreArcs nodes columns before
-      → arc_row_fault nodes columns (map (link_cells nodes) before) cells ≡ None → Next before cells
+      → arc_row_fault nodes columns (map (link_cells nodes) before) cells ≡ None
+      → (arc : Link) × (link_cells nodes arc ≡ cells) × AreArcs nodes columns (before ++ arc ∷ [])
   next_arc before cells right none =
       let rows = map (link_cells nodes) before in
       let room = both_none (room_fault MAX_ARCS rows) _ none in
@@ -73,61 +64,23 @@ module _ (nodes : Cells) (few : length nodes ≤ MAX_NODES) (columns : Cells) wh
       let ends : IsEnds nodes cells from.place to.place =
       record { from_in = from.within; to_in = to.within; from_is = from.is; to_is = to.is } in
       let seen = labels_seen columns before in
-      let held : HoldsArcs nodes head before seen =
+      let holds : HoldsArcs nodes head before seen =
       record { few_nodes = few; head_ok = refl; arcs_ok = right; labels_are = refl } in
       let open_room = λ (full : length before ≡ MAX_ARCS).
       room_is MAX_ARCS rows room.0 (length-map before (link_cells nodes) ∙ full) in
       let values = values_of cells in
       let is =
-      arc_fault_is nodes head before seen held open_room cells width.0 from.place to.place ends
+      arc_fault_is nodes head before seen holds open_room cells width.0 from.place to.place ends
       (is_label_among columns seen values) refl in
-      let apart = by_test (is_label_among columns seen values) (sym is ∙ none) in
-      let wide = width_is (2 + length columns) cells width.0 in
-      record {
-        arc = record { from = from.place; to = to.place; values = values };
-        is = ap (λ own. own ∷ label_at nodes to.place ∷ values) from.is
+      let apart = untold TwiceLabel (is_label_among columns seen values) (sym is ∙ none) in
+      let wide = width_is (2 + length columns) cells width.0 in (
+        record { from = from.place; to = to.place; values = values },
+        ap (λ own. own ∷ label_at nodes to.place ∷ values) from.is
             ∙ ap (λ own. first_cell cells ∷ own ∷ values) to.is
-            ∙ cells_are cells (omega (arith, wide));
-        right =
-            (arc_behind nodes head before seen held open_room cells width.0 from.place to.place ends
-            values (labels_with columns seen values) refl apart refl).arcs_ok;
-      }
-    where
-      by_test : (test : Bool) → (if test then Some TwiceLabel else None) ≡ None → test ≡ false
-      by_test true is = absurd (cc)
-      by_test false is = refl
-
-  -- Arcs that have these rows.
-  record Arcs (rows : List Cells) : Type 0 where
-    arcs : List Link
-    right : AreArcs nodes columns arcs
-    are : map (link_cells nodes) arcs ≡ rows
-
-  -- Rows that aren't at fault are arcs behind the others.
-  arcs_from : (first : Cells) → columns_named first ≡ columns
-      → (before : List Link) (more : List Cells)
-      → AreArcs nodes columns before
-      → InOrder (arc_fault nodes) (first ∷ map (link_cells nodes) before) more
-      → Arcs (map (link_cells nodes) before ++ more)
-  arcs_from first named before [] right order =
-      record {
-        arcs = before;
-        right = right;
-        are = sym (append-nil (map (link_cells nodes) before));
-      }
-  arcs_from first named before (cells ∷ more) right order =
-      let rows = map (link_cells nodes) before in
-      let none = subst (λ own. arc_row_fault nodes own rows cells ≡ None) named order.0 in
-      let next = next_arc before cells right none in
-      let pushed =
-      map_push (link_cells nodes) before next.arc ∙ ap (λ own. rows ++ own ∷ []) next.is in
-      let rest = arcs_from first named (before ++ next.arc ∷ []) more next.right
-      (subst (λ own. InOrder (arc_fault nodes) (first ∷ own) more) (sym pushed) order.1) in
-      record {
-        arcs = rest.arcs;
-        right = rest.right;
-        are = rest.are ∙ ap (λ own. own ++ more) pushed ∙ append_assoc rows (cells ∷ []) more;
-      }
+            ∙ cells_are cells (omega (arith, wide)),
+        (arc_behind nodes head before seen holds open_room cells width.0 from.place to.place ends
+            values (labels_with columns seen values) refl apart refl).arcs_ok,
+      )
 
 -- There are no arcs yet.
 none_yet : (nodes columns : Cells) → arc_head_fault columns ≡ None
@@ -156,14 +109,14 @@ arcs_said nodes few [] (cells ∷ read) some all = absurd all.read_is
 arcs_said nodes few (line ∷ lines) [] some all = absurd all.read_is
 arcs_said nodes few (line ∷ lines) (first ∷ rows) some all =
     let columns = columns_named first in
-    let made =
-    arcs_from nodes few columns first refl [] rows (none_yet nodes first all.fine.0) all.fine.1 in
+    let made = items_from (link_cells nodes) (AreArcs nodes columns) (arc_fault nodes) (first ∷ [])
+    (next_arc nodes few columns) [] rows (none_yet nodes first all.fine.0) all.fine.1 in
     let head = head_named first (some line lines first refl all.read_is.0) in
     let Are : List Cells → Type 0 = λ own. Rows (line ∷ lines) own in
     record {
       columns = columns;
-      arcs = made.arcs;
+      arcs = made.items;
       right = made.right;
-      spells = subst Are (sym (ap (λ own. own ∷ map (link_cells nodes) made.arcs) head
+      spells = subst Are (sym (ap (λ own. own ∷ map (link_cells nodes) made.items) head
           ∙ ap (λ own. first ∷ own) made.are)) all.read_is;
     }

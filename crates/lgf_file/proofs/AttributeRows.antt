@@ -9,7 +9,7 @@ use Rattle.lgf_file.specs.Faults.{attribute_fault, width_fault, twice_fault, fir
 use Rattle.lgf_file.specs.Readers.{AttributesSound}
 use Rattle.lgf_file.specs.declared.faults.LgfKind.TheVariants.{TwiceAttribute}
 use Rattle.lgf_file.proofs.NameLists.{twice_push}
-use Rattle.lgf_file.proofs.NoFaults.{passed, width_is}
+use Rattle.lgf_file.proofs.RowFaults.{passed, width_is}
 use Rattle.lgf_file.proofs.AttributesFine.{names_first}
 
 -- Attributes, and the two tokens of a row, of which the first is the name.

@@ -7,7 +7,7 @@ use Rattle.lgf_file.specs.Faults.{attribute_fault, twice_fault, first_cell}
 use Rattle.lgf_file.specs.declared.faults.LgfKind.TheVariants.{TwiceAttribute}
 use Rattle.lgf_file.proofs.NameLists.{twice_front}
 use Rattle.lgf_file.proofs.InOrderRows.{made_in_order}
-use Rattle.lgf_file.proofs.NoFaults.{not_twice}
+use Rattle.lgf_file.proofs.RowFaults.{not_twice}
 use Rattle.lgf_file.proofs.Midst.{made_midst}
 
 -- The names of attributes stand first.

@@ -1,7 +1,7 @@
 -- Bytes spell one document alone.
-use Rattle.std.proofs.Common.{◌≡◌, ℕ, List, Some, Option, sym, ◌∙◌, subst}
+use Rattle.std.proofs.Common.{◌≡◌, ℕ, List, Some, Option, sym, ◌∙◌}
 use Rattle.lgf_file.specs.Sections.{Part}
-use Rattle.lgf_file.specs.Documents.{node_labels, AreArcs, NodesSpell, ArcsSpell, Spells}
+use Rattle.lgf_file.specs.Documents.{node_labels, Spells}
 use Rattle.lgf_file.specs.declared.documents.Doc.{Doc}
 use Rattle.lgf_file.proofs.NodesAlone.{nodes_one}
 use Rattle.lgf_file.proofs.ArcsAlone.{arcs_one, attributes_one}
@@ -28,19 +28,11 @@ one_document bytes one other spells other_spells =
     sym spells.arc_part_is ∙ other_spells.arc_part_is in
     let arc_parts : spells.arc_part ≡ other_spells.arc_part = cc in
     let nodes = nodes_one other_spells.node_part.rows one.nodes other.nodes
-    (subst (λ own. NodesSpell own.rows one.nodes) node_parts spells.nodes_are)
-    other_spells.nodes_are in
-    let labels = node_labels other.nodes in
-    let columns = one.arc_columns in
-    let right =
-    subst (λ own. AreArcs (node_labels own) columns one.arcs) nodes spells.valid.arcs_ok in
-    let lines = subst (λ own. ArcsSpell own.rows (node_labels one.nodes) columns one.arcs) arc_parts
-    spells.arcs_are in
-    let rows = other_spells.arc_part.rows in
-    let moved = subst (λ own. ArcsSpell rows (node_labels own) columns one.arcs) nodes lines in
-    let arcs = arcs_one rows labels columns other.arc_columns one.arcs other.arcs
-    other_spells.valid.nodes_ok.labels_differ right other_spells.valid.arcs_ok moved
-    other_spells.arcs_are in
+    (rw node_parts at spells.nodes_are) other_spells.nodes_are in
+    let arcs = arcs_one other_spells.arc_part.rows (node_labels other.nodes) one.arc_columns
+    other.arc_columns one.arcs other.arcs other_spells.valid.nodes_ok.labels_differ
+    (rw nodes at spells.valid.arcs_ok) other_spells.valid.arcs_ok
+    (rw (arc_parts, nodes) at spells.arcs_are) other_spells.arcs_are in
     doc_same one other nodes arcs.0 arcs.1
     (attributes_one _ one.attributes other.attributes spells.attributes_are
     other_spells.attributes_are)

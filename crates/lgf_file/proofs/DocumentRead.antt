@@ -74,25 +74,16 @@ module _ (bytes : List ℕ) (nodes arcs : Part) (attributes : List Line)
       refused bytes fault (rows_first (lines_of bytes) nodes arcs nodes_is arcs_is fault behind
       (subst (λ own. RowsFault nodes.rows arcs.rows own fault) (sym attributes_is) blames))
 
-module _ (bytes : List ℕ) (result : Result Doc DocFault) where
-  -- The document that is spelled is what is answered.
-  pub exact : IfOk result (Spells bytes) → IfErr result (Refuses bytes)
-      → (doc : Doc) → Spells bytes doc → Answers doc result
-  exact = by_result result
-    where
-      by_result : (own : Result Doc DocFault) → IfOk own (Spells bytes) → IfErr own (Refuses bytes)
-          → (doc : Doc) → Spells bytes doc → Answers doc own
-      by_result (Ok found) right wrong doc spells = one_document bytes found doc right spells
-      by_result (Err Memory) right wrong doc spells = tt
-      by_result (Err (Lgf fault)) right wrong doc spells = wrong.1 doc spells
+-- The document that is spelled is what is answered.
+pub exact : (bytes : List ℕ) (result : Result Doc DocFault) → IfOk result (Spells bytes)
+    → IfErr result (Refuses bytes) → (doc : Doc) → Spells bytes doc → Answers doc result
+exact bytes (Ok found) right wrong doc spells = one_document bytes found doc right spells
+exact bytes (Err Memory) right wrong doc spells = tt
+exact bytes (Err (Lgf fault)) right wrong doc spells = wrong.1 doc spells
 
-  -- The first fault is what is answered.
-  pub exact_fault : IfOk result (Spells bytes) → IfErr result (Refuses bytes)
-      → (fault : LgfFault) → HasFault bytes fault → Names fault result
-  exact_fault = by_result result
-    where
-      by_result : (own : Result Doc DocFault) → IfOk own (Spells bytes) → IfErr own (Refuses bytes)
-          → (fault : LgfFault) → HasFault bytes fault → Names fault own
-      by_result (Ok found) right wrong fault has = fault_spells_none bytes fault found has right
-      by_result (Err Memory) right wrong fault has = tt
-      by_result (Err (Lgf found)) right wrong fault has = one_fault bytes found fault wrong.0 has
+-- The first fault is what is answered.
+pub exact_fault : (bytes : List ℕ) (result : Result Doc DocFault) → IfOk result (Spells bytes)
+    → IfErr result (Refuses bytes) → (fault : LgfFault) → HasFault bytes fault → Names fault result
+exact_fault bytes (Ok found) right wrong fault has = fault_spells_none bytes fault found has right
+exact_fault bytes (Err Memory) right wrong fault has = tt
+exact_fault bytes (Err (Lgf found)) right wrong fault has = one_fault bytes found fault wrong.0 has

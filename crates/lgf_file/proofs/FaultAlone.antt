@@ -3,25 +3,32 @@ use Rattle.std.proofs.Common.{◌≡◌, ℕ, ◌+◌, Bool, true, false, List, 
 use Rattle.std.specs.Prelude.{MatchBool, nat_lt}
 use Rattle.token_text.specs.Lines.{lines_of}
 use Rattle.lgf_file.specs.Sections.{Line, Part, part, rows_in}
-use Rattle.lgf_file.specs.Faults.{rows_fault, RowsFault, FaultBy}
+use Rattle.lgf_file.specs.Faults.{Reading, AreRead, rows_fault, RowsFault, FaultBy}
 use Rattle.lgf_file.specs.Laws.{HasFault}
 use Rattle.lgf_file.specs.declared.sections.Section.TheVariants.{Nodes, Arcs, Attributes}
 use Rattle.lgf_file.specs.declared.faults.LgfFault.{LgfFault}
 use Rattle.lgf_file.specs.declared.faults.LgfKind.TheVariants.{ArcsFirst}
 use Rattle.lgf_file.proofs.Readings.{readings_one}
 
--- The rows of three sections have one first fault at most.
+-- Rows that have a first fault have it however they are read.
+pub rows_fault_is : (nodes arcs attributes : List Line) (fault : LgfFault)
+    (first second third : List Reading) → RowsFault nodes arcs attributes fault
+    → AreRead nodes first → AreRead arcs second → AreRead attributes third
+    → rows_fault first second third ≡ Some fault
+rows_fault_is nodes arcs attributes fault first second third bad first_are second_are third_are =
+    rw (
+      readings_one nodes first bad.node_readings first_are bad.nodes_are,
+      readings_one arcs second bad.arc_readings second_are bad.arcs_are,
+      readings_one attributes third bad.attribute_readings third_are bad.attributes_are,
+    ) bad.fault_is
+
+-- So they have one at most.
 rows_fault_one : (nodes arcs attributes : List Line) (one other : LgfFault)
     → RowsFault nodes arcs attributes one → RowsFault nodes arcs attributes other → one ≡ other
 rows_fault_one nodes arcs attributes one other bad other_bad =
-    let first = readings_one nodes _ _ bad.nodes_are other_bad.nodes_are in
-    let second = readings_one arcs _ _ bad.arcs_are other_bad.arcs_are in
-    let third = readings_one attributes _ _ bad.attributes_are other_bad.attributes_are in
-    let same : rows_fault bad.node_readings bad.arc_readings bad.attribute_readings
-    ≡ rows_fault other_bad.node_readings other_bad.arc_readings other_bad.attribute_readings =
-    λ i. rows_fault (first i) (second i) (third i) in
     let both : ◌≡◌ {A = Option LgfFault} (Some one) (Some other) =
-    sym bad.fault_is ∙ same ∙ other_bad.fault_is in
+    sym (rows_fault_is nodes arcs attributes one _ _ _ bad other_bad.nodes_are other_bad.arcs_are
+    other_bad.attributes_are) ∙ other_bad.fault_is in
     cc
 
 -- A file has one first fault at most, by its sections.

@@ -5,8 +5,9 @@ use Rattle.std.proofs.lemmas.Bool.{ltb-true}
 use Rattle.token_text.specs.Lines.{lines_of}
 use Rattle.lgf_file.specs.Sections.{Line, Part, part, rows_in}
 use Rattle.lgf_file.specs.Rows.{Cells}
-use Rattle.lgf_file.specs.Documents.{labels_of, node_labels, arc_rows, IsTable, AreArcs, AreAttributes, NodesSpell, ArcsSpell, AttributesSpell, attribute_cells, Spells}
-use Rattle.lgf_file.specs.Faults.{Reading, AreRead, rows_read, first_bad, labels_read, fault_or, earlier, graph_fault, rows_fault, RowsFault, FaultBy, node_fault, arc_fault, attribute_fault}
+use Rattle.lgf_file.specs.Documents.{labels_of, node_labels, arc_rows, IsTable, AreArcs, AreAttributes, NodesSpell, ArcsSpell, AttributesSpell, attribute_cells, Spells, IsDoc}
+use Rattle.lgf_file.specs.Faults.{Reading, AreRead, rows_read, first_bad, labels_read, fault_or, earlier, graph_fault, rows_fault, RowsFault, node_fault, arc_fault, attribute_fault}
+use Rattle.lgf_file.specs.Reading.{PartsSpell}
 use Rattle.lgf_file.specs.Laws.{HasFault}
 use Rattle.lgf_file.specs.declared.sections.Section.TheVariants.{Arcs, Attributes}
 use Rattle.lgf_file.specs.declared.documents.Doc.{Doc}
@@ -14,7 +15,8 @@ use Rattle.lgf_file.specs.declared.documents.Table.{Table}
 use Rattle.lgf_file.specs.declared.documents.Link.{Link}
 use Rattle.lgf_file.specs.declared.faults.LgfKind.{LgfKind}
 use Rattle.lgf_file.specs.declared.faults.LgfFault.{LgfFault}
-use Rattle.lgf_file.proofs.Readings.{readings_one, read_as}
+use Rattle.lgf_file.proofs.Readings.{read_as}
+use Rattle.lgf_file.proofs.FaultAlone.{rows_fault_is}
 use Rattle.lgf_file.proofs.NodesFine.{nodes_fine}
 use Rattle.lgf_file.proofs.ArcsFine.{arcs_fine}
 use Rattle.lgf_file.proofs.AttributesFine.{attributes_fine}
@@ -89,52 +91,39 @@ attributes_fault nodes arcs labels attributes own links =
     (arcs_fault nodes labels links.readings own ∙ links.none)
 
 -- Sections that spell a document have no fault.
-rows_fine : (nodes arcs attributes : List Line) (doc : Doc) (fault : LgfFault) → IsTable doc.nodes
-    → AreArcs (node_labels doc.nodes) doc.arc_columns doc.arcs → AreAttributes doc.attributes
-    → NodesSpell nodes doc.nodes → ArcsSpell arcs (node_labels doc.nodes) doc.arc_columns doc.arcs
-    → AttributesSpell attributes doc.attributes → RowsFault nodes arcs attributes fault → ⊥
-rows_fine nodes arcs attributes doc fault right links_right pairs_right spells links_spell
-    pairs_spell bad =
+rows_fine : (nodes arcs attributes : List Line) (doc : Doc) (fault : LgfFault) → IsDoc doc
+    → PartsSpell nodes arcs attributes doc → RowsFault nodes arcs attributes fault → ⊥
+rows_fine nodes arcs attributes doc fault valid spells bad =
     let labels = node_labels doc.nodes in
-    let own = nodes_read nodes doc.nodes right spells in
-    let links = arcs_read arcs labels doc.arc_columns doc.arcs links_right links_spell in
-    let pairs = attributes_read attributes doc.attributes pairs_right pairs_spell in
-    let first = readings_one nodes _ _ bad.nodes_are own.fine.are in
-    let second = readings_one arcs _ _ bad.arcs_are links.are in
-    let third = readings_one attributes _ _ bad.attributes_are pairs.are in
-    let same : rows_fault bad.node_readings bad.arc_readings bad.attribute_readings
-    ≡ rows_fault own.fine.readings links.readings pairs.readings =
-    λ i. rows_fault (first i) (second i) (third i) in
+    let own = nodes_read nodes doc.nodes valid.nodes_ok spells.nodes_are in
+    let links = arcs_read arcs labels doc.arc_columns doc.arcs valid.arcs_ok spells.arcs_are in
+    let pairs = attributes_read attributes doc.attributes valid.attributes_ok spells.attributes_are
+    in
     let none = attributes_fault nodes arcs labels pairs.readings own links ∙ pairs.none in
-    let both : ◌≡◌ {A = Option LgfFault} (Some fault) None = sym bad.fault_is ∙ same ∙ none in
+    let both : ◌≡◌ {A = Option LgfFault} (Some fault) None =
+    sym (rows_fault_is nodes arcs attributes fault _ _ _ bad own.fine.are links.are pairs.are)
+    ∙ none in
     absurd (cc)
 
 -- Bytes that have a fault spell no document.
 pub fault_spells_none : (bytes : List ℕ) (fault : LgfFault) (doc : Doc) → HasFault bytes fault
     → Spells bytes doc → ⊥
 fault_spells_none bytes fault doc faulted spells =
-    by_test _ (nat_lt arcs.at nodes.at) refl
-    (subst (λ own. FaultBy end (Some nodes) own attributes fault) spells.arc_part_is
-    (subst (λ own. FaultBy end own (part Arcs (lines_of bytes)) attributes fault)
-    spells.node_part_is faulted))
+    by_test _ (nat_lt spells.arc_part.at spells.node_part.at) refl
+    (rw (spells.arc_part_is, spells.node_part_is) at faulted)
   where
-    end : ℕ
-    end = length (lines_of bytes) + 1
-
-    nodes : Part
-    nodes = spells.node_part
-
-    arcs : Part
-    arcs = spells.arc_part
-
     attributes : List Line
     attributes = rows_in (part Attributes (lines_of bytes))
 
-    by_test : (P : Type 0) (test : Bool) → nat_lt arcs.at nodes.at ≡ test
-        → MatchBool test P (RowsFault nodes.rows arcs.rows attributes fault) → ⊥
-    by_test P true tested said =
-        absurd (omega (arith, ltb-true arcs.at nodes.at tested, spells.in_order))
+    by_test : (P : Type 0) (test : Bool) → nat_lt spells.arc_part.at spells.node_part.at ≡ test
+        → MatchBool test P (RowsFault spells.node_part.rows spells.arc_part.rows attributes fault)
+        → ⊥
+    by_test P true tested said = absurd (omega (arith, ltb-true _ _ tested, spells.in_order))
     by_test P false tested bad =
-        rows_fine nodes.rows arcs.rows attributes doc fault spells.valid.nodes_ok
-        spells.valid.arcs_ok
-        spells.valid.attributes_ok spells.nodes_are spells.arcs_are spells.attributes_are bad
+        rows_fine spells.node_part.rows spells.arc_part.rows attributes doc fault spells.valid
+        (record {
+          nodes_are = spells.nodes_are;
+          arcs_are = spells.arcs_are;
+          attributes_are = spells.attributes_are;
+        })
+        bad

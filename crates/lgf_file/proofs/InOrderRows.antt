@@ -1,5 +1,6 @@
 -- Rows of which none is at fault behind those before it.
-use Rattle.std.proofs.Common.{◌≡◌, List, [], ◌∷◌, ◌++◌, None, Option, refl, sym, ap, subst, append_assoc, append-nil, map}
+use Rattle.std.proofs.Common.{◌≡◌, List, [], ◌∷◌, ◌++◌, None, Option, refl, sym, ap, ◌∙◌, subst, append_assoc, append-nil, map}
+use Rattle.std.proofs.lemmas.List.{map-id, map_push}
 use Rattle.lgf_file.specs.Rows.{Cells}
 use Rattle.lgf_file.specs.Reading.{InOrder}
 use Rattle.lgf_file.specs.declared.faults.LgfKind.{LgfKind}
@@ -27,13 +28,38 @@ module _ (fault : List Cells → Cells → Option LgfKind) where
       → ((front : List Cells) (cells : Cells) (more : List Cells) → rows ≡ front ++ cells ∷ more
       → fault (before ++ front) cells ≡ None)
       → InOrder fault before rows
-  rows_in_order before [] fine = tt
-  rows_in_order before (cells ∷ rows) fine =
-      let alone =
-      subst (λ own. fault own cells ≡ None) (append-nil before) (fine [] cells rows refl) in (
-        alone,
-        rows_in_order (before ++ cells ∷ []) rows (λ front next more split.
-            subst (λ own. fault own next ≡ None)
-            (sym (append_assoc before (cells ∷ []) front))
-            (fine (cells ∷ front) next more (ap (λ own. cells ∷ own) split))),
-      )
+  rows_in_order before rows fine =
+      subst (InOrder fault before) (map-id rows)
+      (made_in_order (λ cells. cells) before rows (λ front cells more split.
+      rw (map-id front) (fine front cells more split)))
+
+-- Items that stand for rows, and of which something holds.
+pub record Made {A : Type 0} (cells_of : A → Cells) (AreRight : List A
+    → Type 0) (rows : List Cells) : Type 0 where
+  pub items : List A
+  pub right : AreRight items
+  pub are : map cells_of items ≡ rows
+
+-- Rows in order behind a start are those of items, if each row that isn't at fault is one item more.
+module _ {A : Type 0} (cells_of : A → Cells) (AreRight : List A → Type 0)
+    (fault : List Cells → Cells → Option LgfKind) (start : List Cells)
+    (next : (before : List A) (cells : Cells) → AreRight before
+    → fault (start ++ map cells_of before) cells ≡ None
+    → (item : A) × (cells_of item ≡ cells) × AreRight (before ++ item ∷ [])) where
+  pub items_from : (before : List A) (more : List Cells) → AreRight before
+      → InOrder fault (start ++ map cells_of before) more
+      → Made cells_of AreRight (map cells_of before ++ more)
+  items_from before [] right order =
+      record { items = before; right = right; are = sym (append-nil (map cells_of before)) }
+  items_from before (cells ∷ more) right order =
+      let rows = map cells_of before in
+      let own = next before cells right order.0 in
+      let pushed = map_push cells_of before own.0 ∙ ap (λ last. rows ++ last ∷ []) own.1 in
+      let on = append_assoc start rows (cells ∷ []) ∙ ap (λ all. start ++ all) (sym pushed) in
+      let rest = items_from (before ++ own.0 ∷ []) more own.2
+      (subst (λ all. InOrder fault all more) on order.1) in
+      record {
+        items = rest.items;
+        right = rest.right;
+        are = rest.are ∙ ap (λ all. all ++ more) pushed ∙ append_assoc rows (cells ∷ []) more;
+      }

@@ -6,7 +6,7 @@ pub mod RowWords
 pub mod NameLists
 pub mod Midst
 pub mod NodeLabels
-pub mod NoFaults
+pub mod RowFaults
 pub mod NodeRows
 pub mod ArcHeads
 pub mod ArcLabels
@@ -31,7 +31,6 @@ pub mod WrittenRows
 pub mod WrittenSections
 pub mod RoundTrip
 pub mod Appended
-pub mod WithoutFault
 pub mod NodesSaid
 pub mod ArcsSaid
 pub mod AttributesSaid

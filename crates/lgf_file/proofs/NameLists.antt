@@ -1,9 +1,9 @@
 -- Names among others, names that differ, and names at their places.
-use Rattle.std.proofs.Common.{◌≡◌, ℕ, zero, suc, ◌<◌, true, false, List, [], ◌∷◌, ◌++◌, length, take, drop-cons, ⊎_elim, refl, sym, ap, ◌∙◌, subst, arith}
+use Rattle.std.proofs.Common.{◌≡◌, ℕ, zero, suc, ◌<◌, true, false, List, [], ◌∷◌, ◌++◌, length, take, drop-cons, refl, sym, ap, ◌∙◌, subst, arith}
 use Rattle.std.proofs.lemmas.List.{take-append-drop}
 use Rattle.std.specs.Prelude.{slice_index_or}
 use Rattle.std.specs.Str.{bytes_eq}
-use Rattle.std.proofs.lemmas.Bool.{or_parts, or_from, or_left, or_right, or_cases, both_ways, false_from_ne_true}
+use Rattle.std.proofs.lemmas.Bool.{or_parts, or_from, both_ways, false_from_ne_true, true_from_ne_false}
 use Rattle.std.proofs.lemmas.List.Folds.{list_any-append, list_any_at}
 use Rattle.std.proofs.lemmas.Slice.Eq.{bytes_eq-Decides}
 use Rattle.token_text.specs.Names.{is_among, has_twice}
@@ -84,30 +84,14 @@ one_place (first ∷ names) (suc place) (suc other) differ within other_within s
     let rest = (or_parts (is_among first names) (has_twice names) differ).1 in
     ap suc (one_place names place other rest (omega arith) (omega arith) same)
 
--- A name that stands before itself stands twice.
-twice_behind : (front : Names) (name : List ℕ) (more : Names) → is_among name front ≡ true
-    → has_twice (front ++ name ∷ more) ≡ true
-twice_behind [] name more among = absurd (cc)
-twice_behind (first ∷ front) name more among = ⊎_elim
-    (λ (same : bytes_eq name first ≡ true).
-    let is = (bytes_eq-Decides name first).0 same in
-    let here = subst (λ own. bytes_eq own name ≡ true) is (name_itself name) in
-    or_left (is_among first (front ++ name ∷ more)) (has_twice (front ++ name ∷ more))
-    (list_any-append (bytes_eq first) front (name ∷ more)
-    ∙ or_right (is_among first front) (is_among first (name ∷ more))
-    (or_left (bytes_eq first name) (is_among first more) here)))
-    (λ (behind : is_among name front ≡ true).
-    or_right (is_among first (front ++ name ∷ more)) (has_twice (front ++ name ∷ more))
-    (twice_behind front name more behind))
-    (or_cases (bytes_eq name first) (is_among name front) among)
-
 -- A name that stands among those before its place stands twice.
 pub twice_at : (names seen : Names) (place : ℕ) (name : List ℕ) → place < length names
     → seen ≡ take place names → name ≡ slice_index_or names place [] → is_among name seen ≡ true
     → has_twice names ≡ true
 twice_at names seen place name within seen_is name_is among =
+    let own = slice_index_or names place [] in
     let split = sym (take-append-drop place names)
-    ∙ ap (λ own. take place names ++ own) (drop-cons names place [] within) in
-    let here = subst (λ own. is_among own (take place names) ≡ true) name_is
-    (ap (is_among name) (sym seen_is) ∙ among) in
-    ap has_twice split ∙ twice_behind (take place names) (slice_index_or names place []) _ here
+    ∙ ap (λ behind. take place names ++ behind) (drop-cons names place [] within) in
+    let here = rw (name_is, seen_is) at among in
+    true_from_ne_false (has_twice names) (λ differ. both_ways (is_among own (take place names))
+    (twice_front (take place names) own _ (sym (ap has_twice split) ∙ differ)) here)

@@ -1,7 +1,9 @@
 -- The place of the column of labels, and the label of a node.
-use Rattle.std.proofs.Common.{◌≡◌, ℕ, suc, ◌+◌, ◌<◌, Bool, true, false, cond, List, [], ◌∷◌, Some, None, Option, length, get_or, sym, ap, ◌∙◌, subst, arith}
-use Rattle.std.specs.Prelude.{◌||◌, not, IfSome}
-use Rattle.std.proofs.lemmas.Bool.{lt-ltb}
+use Rattle.std.proofs.Common.{◌≡◌, ℕ, ◌<◌, ◌≤◌, Bool, true, cond, List, [], Some, None, Option, length, get_or, ⊎_elim, sym, ap, ◌∙◌, subst, arith}
+use Rattle.std.specs.Prelude.{IfSome}
+use Rattle.std.proofs.lemmas.Bool.{lt-ltb, cases_lt}
+use Rattle.std.proofs.lemmas.List.Folds.{Any-from_list_any}
+use Rattle.std.proofs.lemmas.List.Sums.{fails_before_first}
 use Rattle.std.proofs.lemmas.List.Quantifiers.{position-Some}
 use Rattle.std.specs.Str.{bytes_eq}
 use Rattle.std.specs.List.{list_any, position_or_len}
@@ -12,19 +14,16 @@ use Rattle.lgf_file.specs.Rows.{Cells}
 use Rattle.lgf_file.specs.Documents.{IsTable, label, label_place, cell_at, label_in, label_at, node_labels}
 use Rattle.lgf_file.specs.declared.documents.Table.{Table}
 
--- One more item in front: it passes, or the first that does is among the others.
-first_step : (passes others : Bool) (place count : ℕ) → passes || others ≡ true
-    → (others ≡ true → place < count) → cond (not passes) (1 + place) 0 < suc count
-first_step true others place count any below = omega arith
-first_step false others place count any below = let within = below any in omega arith
-
 -- Where an item passes the test, the place of the first that does is one of theirs.
 first_within : {Item : Type 0} (test : Item → Bool) (items : List Item) → list_any test items ≡ true
     → position_or_len test items < length items
-first_within test [] any = absurd (cc)
-first_within test (item ∷ items) any =
-    first_step (test item) (list_any test items) (position_or_len test items) (length items) any
-    (first_within test items)
+first_within test items any =
+    let found = Any-from_list_any test items any in
+    let passes = ap test found.3 ∙ found.4 in
+    ⊎_elim (λ (before : found.0 < position_or_len test items).
+    absurd (cc (sym (fails_before_first test items found.0 found.1 before) ∙ passes)))
+    (λ (behind : position_or_len test items ≤ found.0). omega (arith, behind, found.2))
+    (cases_lt found.0 (position_or_len test items))
 
 -- Where a column is named label, it is the first such one that has the labels.
 pub place_there : (columns : Cells) → is_among label columns ≡ true

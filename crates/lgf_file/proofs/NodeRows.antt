@@ -11,7 +11,7 @@ use Rattle.lgf_file.specs.Readers.{AreNodes}
 use Rattle.lgf_file.specs.declared.heads.Head.{Head}
 use Rattle.lgf_file.specs.declared.faults.LgfKind.TheVariants.{TwiceLabel}
 use Rattle.lgf_file.proofs.NameLists.{twice_push}
-use Rattle.lgf_file.proofs.NoFaults.{neither, room_open, width_right, not_twice}
+use Rattle.lgf_file.proofs.RowFaults.{neither, room_open, width_right, not_twice}
 
 module _ (head : Head) (rows : List Cells) (labels cells : Cells) (was : AreNodes head rows labels)
     (room : length rows ≡ MAX_NODES → ⊥) (wide : length cells ≡ length head.columns)

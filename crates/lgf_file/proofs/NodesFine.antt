@@ -12,7 +12,7 @@ use Rattle.lgf_file.specs.declared.faults.LgfKind.TheVariants.{NoLabel, TwiceLab
 use Rattle.lgf_file.proofs.Midst.{all_midst, fewer_front, made_midst}
 use Rattle.lgf_file.proofs.NameLists.{twice_front}
 use Rattle.lgf_file.proofs.InOrderRows.{rows_in_order}
-use Rattle.lgf_file.proofs.NoFaults.{neither, room_left, width_right, not_twice, columns_right}
+use Rattle.lgf_file.proofs.RowFaults.{neither, room_open, width_right, not_twice, columns_right}
 
 -- A node of valid ones isn't at fault behind those before it.
 node_fine : (table : Table) → IsTable table
@@ -20,8 +20,8 @@ node_fine : (table : Table) → IsTable table
     → table.rows ≡ front ++ cells ∷ more → node_row_fault table.columns front cells ≡ None
 node_fine table right front cells more split =
     let columns = table.columns in
-    let room = room_left MAX_NODES front
-    (omega (arith, right.few, ap length split, fewer_front front cells more)) in
+    let room = room_open MAX_NODES front (λ full.
+    omega (arith, full, right.few, ap length split, fewer_front front cells more)) in
     let wide = subst (λ rows. All (λ own. length own ≡ length columns) rows) split right.wide in
     let width = width_right (length columns) cells
     (all_midst (λ own. length own ≡ length columns) front cells more wide) in

@@ -3,7 +3,7 @@ use Rattle.std.proofs.Common.{◌≡◌, ℕ, List, [], ◌∷◌, ◌++◌, Som
 use Rattle.token_text.proofs.SomeReading.{TokensFrom, some_tokens}
 use Rattle.lgf_file.specs.Sections.{Line}
 use Rattle.lgf_file.specs.Rows.{Cells, Words, Rows}
-use Rattle.lgf_file.specs.Faults.{Reading, IsRead, AreRead, row_of, rows_read, row_fault, told_or, first_bad}
+use Rattle.lgf_file.specs.Faults.{Reading, IsRead, AreRead, rows_read, told_or, first_bad}
 use Rattle.lgf_file.specs.Reading.{InOrder}
 use Rattle.lgf_file.specs.declared.faults.LgfKind.{LgfKind}
 use Rattle.lgf_file.specs.declared.faults.LgfFault.{LgfFault}
@@ -11,19 +11,6 @@ use Rattle.lgf_file.proofs.Tokens.{words_one}
 use Rattle.lgf_file.proofs.LineWords.{cells_of, has_words, no_words}
 
 -- ---- one way
-
--- Lines have one list of rows at most.
-pub rows_one : (lines : List Line) (one other : List Cells) → Rows lines one → Rows lines other
-    → one ≡ other
-rows_one [] [] [] rows other_rows = refl
-rows_one [] [] (cells ∷ other) rows other_rows = absurd other_rows
-rows_one [] (cells ∷ one) other rows other_rows = absurd rows
-rows_one (line ∷ lines) [] other rows other_rows = absurd rows
-rows_one (line ∷ lines) (cells ∷ one) [] rows other_rows = absurd other_rows
-rows_one (line ∷ lines) (cells ∷ one) (others ∷ other) rows other_rows =
-    let heads = words_one line.1 cells others rows.0 other_rows.0 in
-    let tails = rows_one lines one other rows.1 other_rows.1 in
-    (λ i. heads i ∷ tails i)
 
 read_one : (text : List ℕ) (one other : Option Cells) → IsRead text one → IsRead text other
     → one ≡ other
@@ -91,6 +78,15 @@ read_as (line ∷ lines) (cells ∷ rows) are =
           ∙ rest.fine fault (before ++ cells ∷ []) order.1;
     }
 
+-- Lines have one list of rows at most.
+pub rows_one : (lines : List Line) (one other : List Cells) → Rows lines one → Rows lines other
+    → one ≡ other
+rows_one lines one other rows other_rows =
+    let first = read_as lines one rows in
+    let second = read_as lines other other_rows in
+    sym first.rows_are ∙ ap rows_read (readings_one lines _ _ first.are second.are)
+    ∙ second.rows_are
+
 -- Lines without a fault have rows, which are in order.
 pub record NoneBad (fault : List Cells → Cells
     → Option LgfKind) (before : List Cells) (lines : List Line)
@@ -105,37 +101,20 @@ pub none_bad : (fault : List Cells → Cells → Option LgfKind) (before : List 
 none_bad fault before [] [] are none = record { rows_are = tt; fine = tt }
 none_bad fault before [] (reading ∷ readings) are none = absurd are
 none_bad fault before (line ∷ lines) [] are none = absurd are
-none_bad fault before (line ∷ lines) (reading ∷ readings) are none =
-    by_read (none_bad fault (before ++ row_of reading.1) lines readings are.2) reading.1 refl are.1
+none_bad fault before (line ∷ lines) ((number, None) ∷ readings) are none = absurd (cc)
+none_bad fault before (line ∷ lines) ((number, Some cells) ∷ readings) are none =
+    by_found (none_bad fault (before ++ cells ∷ []) lines readings are.2) (fault before cells) refl
     none
   where
-    by_row : (cells : Cells) → reading.1 ≡ Some cells → Words line.1 cells
-        → (first_bad fault (before ++ row_of reading.1) readings ≡ None
-        → NoneBad fault (before ++ row_of reading.1) lines readings)
+    by_found : (first_bad fault (before ++ cells ∷ []) readings ≡ None
+        → NoneBad fault (before ++ cells ∷ []) lines readings)
         → (found : Option LgfKind) → fault before cells ≡ found
-        → told_or reading.0 found (first_bad fault (before ++ row_of reading.1) readings) ≡ None
-        → NoneBad fault before (line ∷ lines) (reading ∷ readings)
-    by_row cells is words next (Some kind) found_is own = absurd (cc)
-    by_row cells is words next None found_is own =
-        let rest = next own in
-        let Good : List Cells → Type 0 =
-        λ row. Rows (line ∷ lines) (row ++ rows_read readings)
-        × InOrder fault before (row ++ rows_read readings) in
-        let order =
-        subst (λ read. InOrder fault (before ++ row_of read) (rows_read readings)) is rest.fine in
-        let good : Good (cells ∷ []) = ((words, rest.rows_are), (found_is, order)) in
-        let both = subst (λ read. Good (row_of read)) (sym is) good in
-        record { rows_are = both.0; fine = both.1 }
-
-    by_read : (first_bad fault (before ++ row_of reading.1) readings ≡ None
-        → NoneBad fault (before ++ row_of reading.1) lines readings)
-        → (read : Option Cells) → reading.1 ≡ read → IsRead line.1 read
-        → told_or reading.0 (row_fault fault before read)
-        (first_bad fault (before ++ row_of reading.1) readings) ≡ None
-        → NoneBad fault before (line ∷ lines) (reading ∷ readings)
-    by_read next None is read own = absurd (cc)
-    by_read next (Some cells) is words own =
-        by_row cells is words next (fault before cells) refl own
+        → told_or number found (first_bad fault (before ++ cells ∷ []) readings) ≡ None
+        → NoneBad fault before (line ∷ lines) ((number, Some cells) ∷ readings)
+    by_found next (Some kind) is told = absurd (cc)
+    by_found next None is told =
+        let rest = next told in
+        record { rows_are = (are.1, rest.rows_are); fine = (is, rest.fine) }
 
 -- ---- a row at fault behind rows in order
 

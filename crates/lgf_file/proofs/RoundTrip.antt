@@ -1,8 +1,9 @@
 -- The written document spells its document.
 use Rattle.std.proofs.Common.{◌≡◌, ℕ, ◌+◌, ◌<◌, List, [], ◌∷◌, ◌++◌, map, length, true, Some, refl, sym, ap, ◌∙◌, subst, arith, append-nil}
 use Rattle.std.specs.Prelude.{codes, All}
+use Rattle.std.proofs.lemmas.List.{map-id}
 use Rattle.std.proofs.lemmas.List.Elements.{All-head, All-tail}
-use Rattle.token_text.specs.Lines.{lines_of}
+use Rattle.token_text.specs.Lines.{IsInside, lines_of}
 use Rattle.token_text.specs.Names.{is_among}
 use Rattle.lgf_file.specs.Sections.{kind_of, Line, rows_of, part, part_from, rows_in}
 use Rattle.lgf_file.specs.Rows.{Cells, Rows}
@@ -13,7 +14,7 @@ use Rattle.lgf_file.specs.declared.documents.Link.{Link}
 use Rattle.lgf_file.specs.declared.sections.Section.TheVariants.{Nodes, Arcs, Attributes}
 use Rattle.lgf_file.specs.declared.sections.LineKind.TheVariants.{Row}
 use Rattle.lgf_file.proofs.WrittenRows.{row_words, head_words, attribute_words, row_is_row, head_is_row, attribute_is_row, inside_by_test, row_inside, head_inside, attribute_inside}
-use Rattle.lgf_file.proofs.WrittenSections.{AllInside, lines_joined, all_inside_both, all_inside, AllRows, all_rows, numbered, EndsRows, rows_numbered, rows_are, part_behind}
+use Rattle.lgf_file.proofs.WrittenSections.{Each, each_text, lines_joined, all_inside_both, IsRow, numbered, EndsRows, rows_numbered, rows_are, part_behind}
 
 -- Where a name is among others, there is one.
 some_among : (name : List ℕ) (names : Cells) → is_among name names ≡ true → 0 < length names
@@ -29,7 +30,7 @@ some_row (cell ∷ cells) some = row_is_row cell cells
 
 -- Rows of one width, which have a token each.
 wide_rows : (width : ℕ) (rows : List Cells) → 0 < width → All (λ cells. length cells ≡ width) rows
-    → AllRows (map row_text rows)
+    → Each IsRow (map row_text rows)
 wide_rows width [] some wide = tt
 wide_rows width (cells ∷ rows) some wide =
     let first = All-head (λ (own : Cells). length own ≡ width) cells rows wide in
@@ -38,8 +39,9 @@ wide_rows width (cells ∷ rows) some wide =
 
 -- The written rows have their tokens.
 rows_same : (number : ℕ) (rows : List Cells) → Rows (numbered number (map row_text rows)) rows
-rows_same number [] = tt
-rows_same number (cells ∷ rows) = (row_words cells, rows_same (number + 1) rows)
+rows_same number rows =
+    subst (Rows (numbered number (map row_text rows))) (map-id rows)
+    (rows_are row_text (λ cells. cells) row_words number rows)
 
 -- ---- attributes
 
@@ -49,10 +51,10 @@ attributes_end [] number = refl
 attributes_end (attribute ∷ attributes) number = refl
 
 -- The lines of attributes have no line end.
-attributes_inside : (attributes : List (List ℕ × List ℕ)) → AllInside (attribute_lines attributes)
+attributes_inside : (attributes : List (List ℕ × List ℕ)) → Each IsInside (attribute_lines attributes)
 attributes_inside [] = tt
 attributes_inside (attribute ∷ attributes) =
-    let texts = all_inside attribute_text attribute_inside (attribute ∷ attributes) in
+    let texts = each_text IsInside attribute_text attribute_inside (attribute ∷ attributes) in
     (inside_by_test (codes "@attributes") refl, texts)
 
 -- The rows of the attributes among their lines have the tokens of the attributes.
@@ -63,7 +65,7 @@ attribute_rows number [] = tt
 attribute_rows number (attribute ∷ attributes) =
     let own = attribute ∷ attributes in
     let lines = map attribute_text own in
-    let rows = all_rows attribute_text attribute_is_row own in
+    let rows = each_text IsRow attribute_text attribute_is_row own in
     let all : rows_of (number + 1) lines ≡ numbered (number + 1) lines =
     ap (rows_of (number + 1)) (sym (append-nil lines))
     ∙ rows_numbered (number + 1) lines [] rows (λ other. refl) in
@@ -99,7 +101,7 @@ module _ (doc : Doc) (valid : IsDoc doc) where
   arcs_at = 2 + length node_texts
 
   -- The lines of the nodes are rows.
-  node_texts_rows : AllRows node_texts
+  node_texts_rows : Each IsRow node_texts
   node_texts_rows =
       let some = some_among label doc.nodes.columns valid.nodes_ok.labelled in
       let rows = wide_rows (length doc.nodes.columns) doc.nodes.rows some valid.nodes_ok.wide in
@@ -112,23 +114,23 @@ module _ (doc : Doc) (valid : IsDoc doc) where
       row_is_row (label_at labels arc.from) (label_at labels arc.to ∷ arc.values)
 
   -- The lines of the arcs are rows.
-  arc_texts_rows : AllRows arc_texts
-  arc_texts_rows = (head_is_row doc.arc_columns, all_rows text_of arc_is_row doc.arcs)
+  arc_texts_rows : Each IsRow arc_texts
+  arc_texts_rows = (head_is_row doc.arc_columns, each_text IsRow text_of arc_is_row doc.arcs)
 
   -- The lines of the nodes, with the one that opens them, have no line end.
-  nodes_inside : AllInside (codes "@nodes" ∷ node_texts)
+  nodes_inside : Each IsInside (codes "@nodes" ∷ node_texts)
   nodes_inside =
-      let texts = all_inside row_text row_inside doc.nodes.rows in
+      let texts = each_text IsInside row_text row_inside doc.nodes.rows in
       (inside_by_test (codes "@nodes") refl, (row_inside doc.nodes.columns, texts))
 
   -- Nor have those of the arcs.
-  arcs_inside : AllInside (codes "@arcs" ∷ arc_texts)
+  arcs_inside : Each IsInside (codes "@arcs" ∷ arc_texts)
   arcs_inside =
-      let texts = all_inside text_of (λ arc. row_inside (cells_of arc)) doc.arcs in
+      let texts = each_text IsInside text_of (λ arc. row_inside (cells_of arc)) doc.arcs in
       (inside_by_test (codes "@arcs") refl, (head_inside doc.arc_columns, texts))
 
   -- Nor has any line of the document.
-  lines_inside : AllInside (plain_lines doc)
+  lines_inside : Each IsInside (plain_lines doc)
   lines_inside =
       let last = attributes_inside doc.attributes in
       let behind = all_inside_both (codes "@arcs" ∷ arc_texts) last_lines arcs_inside last in

@@ -1,5 +1,5 @@
 -- The first sections of two kinds begin at two lines.
-use Rattle.std.proofs.Common.{◌≡◌, ℕ, ◌+◌, ◌≤◌, Bool, true, false, List, [], ◌∷◌, Some, refl, sym, ◌∙◌, subst, arith}
+use Rattle.std.proofs.Common.{◌≡◌, ℕ, suc, ◌+◌, Bool, true, false, List, [], ◌∷◌, Some, get_or, refl, sym, ◌∙◌, subst, arith}
 use Rattle.std.specs.Prelude.{if◌then◌else◌}
 use Rattle.lgf_file.specs.Sections.{Part, part_from, rows_of, kind_of, is_opened_by}
 use Rattle.lgf_file.specs.declared.sections.Section.{Section}
@@ -23,53 +23,53 @@ opened_one one other kind opens other_opens =
     sym (opened_is one kind opens) ∙ opened_is other kind other_opens in
     cc
 
--- What is said of the first section of its kind among lines, by whether the first line opens it.
-by_first : (P : Part → Type 0) (number : ℕ) (section : Section) (line : List ℕ)
-    (lines : List (List ℕ))
-    (found : Part) → part_from number section (line ∷ lines) ≡ Some found
-    → (is_opened_by section (kind_of line) ≡ true
-    → P (record { at = number; rows = rows_of (number + 1) lines }))
-    → (is_opened_by section (kind_of line) ≡ false → part_from (number + 1) section lines ≡ Some
-    found
-    → P found)
-    → P found
-by_first P number section line lines found is opened later =
-    by_test (is_opened_by section (kind_of line)) refl is
+-- The first section of its kind begins at a line that opens it, and its rows are those behind.
+pub record OpenedAt (number : ℕ) (section : Section) (lines : List (List ℕ)) (found : Part) : Type 0
   where
-    opens : Part
-    opens = record { at = number; rows = rows_of (number + 1) lines }
+    pub before : ℕ
+    pub at_is : found.at ≡ number + before
+    pub opens : is_opened_by section (kind_of (get_or lines before [])) ≡ true
+    pub behind : List (List ℕ)
+    pub rows_are : found.rows ≡ rows_of (found.at + 1) behind
 
-    by_test : (test : Bool) → is_opened_by section (kind_of line) ≡ test
-        → (if test then Some opens else part_from (number + 1) section lines) ≡ Some found → P found
-    by_test true tested own =
-        let same : opens ≡ found = cc in
-        subst P same (opened tested)
-    by_test false tested own = later tested own
+pub opened_at : (number : ℕ) (section : Section) (lines : List (List ℕ)) (found : Part)
+    → part_from number section lines ≡ Some found → OpenedAt number section lines found
+opened_at number section [] found is = absurd (cc)
+opened_at number section (line ∷ lines) found is =
+    by_test (opened_at (number + 1) section lines found) (is_opened_by section (kind_of line)) refl is
+  where
+    here : Part
+    here = record { at = number; rows = rows_of (number + 1) lines }
 
--- The first section of its kind stands at one of the lines.
-at_from : (number : ℕ) (section : Section) (lines : List (List ℕ)) (found : Part)
-    → part_from number section lines ≡ Some found → number ≤ found.at
-at_from number section [] found is = absurd (cc)
-at_from number section (line ∷ lines) found is =
-    by_first (λ own. number ≤ own.at) number section line lines found is (λ opens. omega arith)
-    (λ later own. omega (arith, at_from (number + 1) section lines found own))
+    by_test : (part_from (number + 1) section lines ≡ Some found
+        → OpenedAt (number + 1) section lines found)
+        → (test : Bool) → is_opened_by section (kind_of line) ≡ test
+        → (if test then Some here else part_from (number + 1) section lines) ≡ Some found
+        → OpenedAt number section (line ∷ lines) found
+    by_test next true opens own =
+        let same : here ≡ found = cc in
+        subst (OpenedAt number section (line ∷ lines)) same
+        (record { before = 0; at_is = omega arith; opens = opens; behind = lines; rows_are = refl })
+    by_test next false other own =
+        let rest = next own in
+        record {
+          before = suc rest.before;
+          at_is = omega (arith, rest.at_is);
+          opens = rest.opens;
+          behind = rest.behind;
+          rows_are = rest.rows_are;
+        }
 
 -- The first sections of two kinds begin at two lines.
 pub ats_differ : (number : ℕ) (one other : Section) → (one ≡ other → ⊥) → (lines : List (List ℕ))
     (found other_found : Part) → part_from number one lines ≡ Some found
     → part_from number other lines ≡ Some other_found → found.at ≡ other_found.at → ⊥
-ats_differ number one other differ [] found other_found is other_is = absurd (cc)
-ats_differ number one other differ (line ∷ lines) found other_found is other_is =
-    by_first (λ own. own.at ≡ other_found.at → ⊥) number one line lines found is
-    (λ opens. by_first (λ own. number ≡ own.at → ⊥) number other line lines other_found other_is
-    (λ other_opens same. differ (opened_one one other (kind_of line) opens other_opens))
-    (λ other_later other_own same.
-    absurd (omega (arith, at_from (number + 1) other lines other_found other_own))))
-    (λ later own. by_first (λ own. found.at ≡ own.at
-    → ⊥) number other line lines other_found other_is
-    (λ opens same. absurd (omega (arith, at_from (number + 1) one lines found own)))
-    (λ other_later other_own.
-    ats_differ (number + 1) one other differ lines found other_found own other_own))
+ats_differ number one other differ lines found other_found is other_is same =
+    let first = opened_at number one lines found is in
+    let second = opened_at number other lines other_found other_is in
+    let place : second.before ≡ first.before = omega (arith, first.at_is, second.at_is, same) in
+    differ (opened_one one other (kind_of (get_or lines first.before [])) first.opens
+    (subst (λ own. is_opened_by other (kind_of (get_or lines own [])) ≡ true) place second.opens))
 
 -- A section of nodes is none of arcs.
 pub nodes_no_arcs : ◌≡◌ {A = Section} Nodes Arcs → ⊥

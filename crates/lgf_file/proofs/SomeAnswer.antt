@@ -5,7 +5,7 @@ use Rattle.std.proofs.lemmas.Bool.{ltb-false, le-ltb}
 use Rattle.std.proofs.lemmas.List.{length-map}
 use Rattle.base_items.specs.declared.limits.TheConstants.{MAX_NODES}
 use Rattle.token_text.specs.Lines.{lines_of}
-use Rattle.lgf_file.specs.Sections.{Line, Part, part, part_from, rows_of, rows_in, is_opened_by, kind_of}
+use Rattle.lgf_file.specs.Sections.{Line, Part, part, rows_in}
 use Rattle.lgf_file.specs.Rows.{Cells, Words}
 use Rattle.lgf_file.specs.Documents.{Spells, IsDoc, IsTable, label_in, node_labels}
 use Rattle.lgf_file.specs.Faults.{Reading, AreRead, rows_read, first_bad, labels_read, fault_or, earlier, graph_fault, rows_fault, node_fault, arc_fault, attribute_fault}
@@ -18,6 +18,7 @@ use Rattle.lgf_file.specs.declared.documents.Table.{Table}
 use Rattle.lgf_file.specs.declared.faults.LgfFault.{LgfFault}
 use Rattle.lgf_file.specs.declared.faults.LgfKind.{LgfKind}
 use Rattle.lgf_file.proofs.RowWords.{first_has_token}
+use Rattle.lgf_file.proofs.SectionsDiffer.{opened_at}
 use Rattle.lgf_file.proofs.Readings.{some_readings, none_bad}
 use Rattle.lgf_file.proofs.FaultParts.{no_nodes, no_arcs, arcs_first, rows_first}
 use Rattle.lgf_file.proofs.NodesSaid.{nodes_said}
@@ -31,27 +32,6 @@ SomeAnswer bytes = ((doc : Doc) × Spells bytes doc) ⊎ ((fault : LgfFault) × 
 
 -- ---- the first row of a section
 
-record RowsOf (rows : List Line) : Type 0 where
-  number : ℕ
-  lines : List (List ℕ)
-  are : rows ≡ rows_of number lines
-
-rows_of_part : (number : ℕ) (section : Section) (lines : List (List ℕ)) (found : Part)
-    → part_from number section lines ≡ Some found → RowsOf found.rows
-rows_of_part number section [] found is = absurd (cc)
-rows_of_part number section (line ∷ lines) found is =
-    by_test (is_opened_by section (kind_of line)) (rows_of_part (number + 1) section lines found) is
-  where
-    by_test : (opens : Bool)
-        → (part_from (number + 1) section lines ≡ Some found → RowsOf found.rows)
-        → cond opens (Some (record { at = number; rows = rows_of (number + 1) lines }))
-        (part_from (number + 1) section lines) ≡ Some found
-        → RowsOf found.rows
-    by_test true next same =
-        let here : record { at = number; rows = rows_of (number + 1) lines } ≡ found = cc in
-        record { number = number + 1; lines = lines; are = ap (λ own. own.rows) (sym here) }
-    by_test false next same = next same
-
 -- A row of a section has a token.
 has_token : (section : Section) (lines : List (List ℕ)) (found : Part)
     → part section lines ≡ Some found
@@ -59,8 +39,8 @@ has_token : (section : Section) (lines : List (List ℕ)) (found : Part)
     → Words line.1 cells
     → 0 < length cells
 has_token section lines found is line more cells split words =
-    let own = rows_of_part 1 section lines found is in
-    first_has_token own.number own.lines line more cells (sym own.are ∙ split) words
+    let own = opened_at 1 section lines found is in
+    first_has_token (found.at + 1) own.behind line more cells (sym own.rows_are ∙ split) words
 
 -- ---- two faults
 

@@ -11,13 +11,19 @@ use Rattle.lgf_file.specs.declared.sections.LineKind.TheVariants.{Row}
 
 -- ---- lines
 
--- None of the lines has a line end.
-abbrev pub AllInside : List (List ℕ) → Type 0
-AllInside [] = Unit {0}
-AllInside (line ∷ lines) = IsInside line × AllInside lines
+-- Something holds of each of the lines.
+abbrev pub Each : (List ℕ → Type 0) → List (List ℕ) → Type 0
+Each P [] = Unit {0}
+Each P (line ∷ lines) = P line × Each P lines
+
+-- What holds of the texts of all items holds of each.
+pub each_text : {Item : Type 0} (P : List ℕ → Type 0) (text : Item → List ℕ)
+    → ((item : Item) → P (text item)) → (items : List Item) → Each P (map text items)
+each_text P text all [] = tt
+each_text P text all (item ∷ items) = (all item, each_text P text all items)
 
 -- Lines that were joined, each with its end, are these lines again.
-pub lines_joined : (lines : List (List ℕ)) → AllInside lines
+pub lines_joined : (lines : List (List ℕ)) → Each IsInside lines
     → lines_of (flat_map ended lines) ≡ lines
 lines_joined [] inside = refl
 lines_joined (line ∷ lines) inside =
@@ -26,30 +32,17 @@ lines_joined (line ∷ lines) inside =
     ∙ ap (λ more. line ∷ more) (lines_joined lines inside.1)
 
 -- Lines without a line end, in front of others.
-pub all_inside_both : (front rest : List (List ℕ)) → AllInside front → AllInside rest
-    → AllInside (front ++ rest)
+pub all_inside_both : (front rest : List (List ℕ)) → Each IsInside front → Each IsInside rest
+    → Each IsInside (front ++ rest)
 all_inside_both [] rest front_inside rest_inside = rest_inside
 all_inside_both (line ∷ front) rest front_inside rest_inside =
     (front_inside.0, all_inside_both front rest front_inside.1 rest_inside)
 
--- Texts of items, none of which has a line end.
-pub all_inside : {Item : Type 0} (text : Item → List ℕ) → ((item : Item) → IsInside (text item))
-    → (items : List Item) → AllInside (map text items)
-all_inside text inside [] = tt
-all_inside text inside (item ∷ items) = (inside item, all_inside text inside items)
-
 -- ---- rows
 
--- Each of the lines is a row.
-abbrev pub AllRows : List (List ℕ) → Type 0
-AllRows [] = Unit {0}
-AllRows (line ∷ lines) = (kind_of line ≡ Row) × AllRows lines
-
--- Texts of items, each of which is a row.
-pub all_rows : {Item : Type 0} (text : Item → List ℕ) → ((item : Item) → kind_of (text item) ≡ Row)
-    → (items : List Item) → AllRows (map text items)
-all_rows text are_rows [] = tt
-all_rows text are_rows (item ∷ items) = (are_rows item, all_rows text are_rows items)
+-- The line is a row.
+abbrev pub IsRow : List ℕ → Type 0
+IsRow line = kind_of line ≡ Row
 
 -- Lines with their numbers, of which the first is this one.
 abbrev pub numbered : ℕ → List (List ℕ) → List Line
@@ -62,7 +55,7 @@ abbrev pub EndsRows : List (List ℕ) → Type 0
 EndsRows lines = (number : ℕ) → rows_of number lines ≡ []
 
 -- Rows in front of the end of a section are its rows.
-pub rows_numbered : (number : ℕ) (lines more : List (List ℕ)) → AllRows lines → EndsRows more
+pub rows_numbered : (number : ℕ) (lines more : List (List ℕ)) → Each IsRow lines → EndsRows more
     → rows_of number (lines ++ more) ≡ numbered number lines
 rows_numbered number [] more rows ends = ends number
 rows_numbered number (line ∷ lines) more rows ends =
@@ -86,7 +79,7 @@ row_opens_none Arcs = refl
 row_opens_none Attributes = refl
 
 -- No section begins among rows.
-pub part_behind : (section : Section) (number : ℕ) (lines more : List (List ℕ)) → AllRows lines
+pub part_behind : (section : Section) (number : ℕ) (lines more : List (List ℕ)) → Each IsRow lines
     → part_from number section (lines ++ more) ≡ part_from (number + length lines) section more
 part_behind section number [] more rows =
     ap (λ own. part_from own section more) (let same : number ≡ number + 0 = omega arith in same)

@@ -118,9 +118,9 @@ fn insert_label(
     ensures labels { IfOk result (λ twice.
         OnFalse twice (labels.new ≡ labels_with head.now.columns labels.old values.now)) }
 {
-    if head.label_place.is_none() {
+    let Some(_) = head.label_place else {
         return Ok(false);
-    }
+    };
     let label = head.copy_label(alloc, values)?;
     let fresh = labels.insert(label)?;
     Ok(!fresh)

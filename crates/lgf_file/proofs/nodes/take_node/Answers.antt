@@ -6,7 +6,7 @@ use Rattle.token_text.specs.Names.{is_among}
 use Rattle.lgf_file.specs.Documents.{label_in}
 use Rattle.lgf_file.proofs.NodeLabels.{place_in_cells}
 use Rattle.lgf_file.proofs.NodeRows.{node_right, node_push}
-use Rattle.lgf_file.proofs.NoFaults.{width_is}
+use Rattle.lgf_file.proofs.RowFaults.{width_is}
 use Rattle.lgf_file.proofs.nodes.take_node.Goals as goal
 
 pub copy_label-requires-clause-within : goal.copy_label-requires-clause-within

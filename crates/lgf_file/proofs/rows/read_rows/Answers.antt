@@ -1,17 +1,10 @@
-use Rattle.std.proofs.Common.{◌≡◌, ◌++◌, ◌∷◌, [], Some, None, Option, refl, sym, ap, ◌∙◌, subst, arith}
-use Rattle.std.specs.Prelude.{IfSome, IfNone}
+use Rattle.std.proofs.Common.{◌≡◌, ◌++◌, ◌∷◌, [], Some, None, refl, sym, ap, ◌∙◌, arith}
 use Rattle.token_text.specs.Lines.{lines_of}
 use Rattle.lgf_file.specs.Sections.{rows_of}
-use Rattle.lgf_file.specs.Rows.{Words}
-use Rattle.lgf_file.specs.Reading.{Blames}
 use Rattle.lgf_file.specs.declared.faults.LgfKind.TheVariants.{Token}
 use Rattle.lgf_file.proofs.Progress.{push, fail}
 use Rattle.lgf_file.proofs.RowWords.{first_has_token}
 use Rattle.lgf_file.proofs.rows.read_rows.Goals as goal
-
--- what is told where there is no fault
-at_none : {T Told : Type 0} {found : Option T} → found ≡ None → IfNone found Told → Told
-at_none {T} {Told} is told = subst (λ own. IfNone own Told) is told
 
 pub returns-in-Some-3-clause-bad : goal.returns-in-Some-3-clause-bad
 returns-in-Some-3-clause-bad g c =
@@ -20,12 +13,11 @@ returns-in-Some-3-clause-bad g c =
     let lines = rows_of c.args.number (lines_of c.args.bytes.now) in
     let read = reads.read c.rows.reader in
     let cells = c.in-Some-2.cells.items in
-    let words = subst (λ found. IfSome found (λ own. Words c.in-Some.row.line.now own.items))
-    c.in-Some-2.is c.in_ok-cells.ensures.found in
+    let words = rw c.in-Some-2.is at c.in_ok-cells.ensures.found in
     let told : fault read cells ≡ Some c.in-Some-3.kind =
     ap (λ labels. reads.fault labels read cells) (sym c.rows.invariant.labels)
     ∙ sym c.in_ok-kind.ensures.fault ∙ c.in-Some-3.is in
-    subst (Blames fault lines) (sym c.fault_at-in-Some-3.ensures)
+    rw c.fault_at-in-Some-3.ensures
     (fail fault lines read _ _ (c.in-Some.row.number, c.in-Some.row.line.now) (Some cells)
     c.in-Some-3.kind
     c.rows.invariant.so_far c.in-Some.ensures.rows words told)
@@ -37,21 +29,20 @@ rows-preserved g c =
     let lines = rows_of c.args.number (lines_of c.args.bytes.now) in
     let read = reads.read c.rows.reader in
     let cells = c.in-Some-2.cells.items in
-    let words = subst (λ found. IfSome found (λ own. Words c.in-Some.row.line.now own.items))
-    c.in-Some-2.is c.in_ok-cells.ensures.found in
+    let words = rw c.in-Some-2.is at c.in_ok-cells.ensures.found in
     let took = c.in_ok-kind.ensures in
     let fine : fault read cells ≡ None =
     ap (λ labels. reads.fault labels read cells) (sym c.rows.invariant.labels)
     ∙ sym took.fault ∙ c.in_default-3.is in
     let after = c.take.new.self in
-    let taken : reads.read after ≡ read ++ cells ∷ [] = at_none c.in_default-3.is took.taken in
+    let taken : reads.read after ≡ read ++ cells ∷ [] = rw c.in_default-3.is at took.taken in
     let labels : reads.labels after ≡ reads.labels c.rows.reader =
-    at_none c.in_default-3.is took.labels in
+    rw c.in_default-3.is at took.labels in
     record {
       so_far = push fault lines read _ _ _ (c.in-Some.row.number, c.in-Some.row.line.now) cells
           c.rows.invariant.so_far c.in-Some.ensures.rows words fine taken;
       labels = labels ∙ c.rows.invariant.labels;
-      sound = at_none c.in_default-3.is took.sound;
+      sound = rw c.in_default-3.is at took.sound;
       room = omega (arith, c.in-Some.ensures.room, c.rows.invariant.room);
     }
 
@@ -68,8 +59,8 @@ returns-in_default-2-clause-bad g c =
     let reads = g.R.RowReader in
     let fault = reads.fault (reads.labels c.args.reader.now) in
     let lines = rows_of c.args.number (lines_of c.args.bytes.now) in
-    let unread = at_none c.in_default-2.is c.in_ok-cells.ensures.none in
-    subst (Blames fault lines) (sym c.fault_at.ensures)
+    let unread = rw c.in_default-2.is at c.in_ok-cells.ensures.none in
+    rw c.fault_at.ensures
     (fail fault lines (reads.read c.rows.reader) _ _ (c.in-Some.row.number, c.in-Some.row.line.now)
     None Token
     c.rows.invariant.so_far c.in-Some.ensures.rows unread refl)

@@ -1,13 +1,13 @@
-use Rattle.std.proofs.Common.{◌≡◌, ℕ, ◌+◌, ◌≤◌, Bool, List, ◌∷◌, Option, length, sym, ap, ◌∙◌, arith}
+use Rattle.std.proofs.Common.{◌≡◌, ℕ, ◌+◌, ◌≤◌, Bool, List, ◌∷◌, Option, length, ap, ◌∙◌, arith}
 use Rattle.std.specs.Prelude.{option_map, IfSome}
 use Rattle.token_text.specs.Lines.{lines_of}
-use Rattle.lgf_file.specs.Sections.{kind_of, is_opened_by, part_from}
+use Rattle.lgf_file.specs.Sections.{kind_of, is_opened_by}
 use Rattle.lgf_file.specs.Found.{section_at, found_or}
 use Rattle.lgf_file.specs.declared.sections.Begun.{Begun}
 use Rattle.lgf_file.specs.declared.sections.LineKind.{LineKind}
 use Rattle.lgf_file.specs.declared.sections.Section.{Section}
 use Rattle.lgf_file.specs.declared.sections.Section.TheVariants.{Nodes, Arcs, Attributes}
-use Rattle.lgf_file.proofs.Found.{or_later, one_on}
+use Rattle.lgf_file.proofs.Found.{one_on}
 use Rattle.lgf_file.proofs.sections.find_sections.Invariants.{Sought}
 use Rattle.lgf_file.proofs.sections.find_sections.Goals as goal
 
@@ -21,16 +21,10 @@ sought_on : (bytes rest line after : List ℕ) (at : ℕ) (section : Section)
     (section_at at after)
     → IfSome next (λ b. b.at + length b.rest.now ≤ length bytes)
     → Sought bytes after (at + 1) section next
-sought_on bytes rest line after at section found next kind opens was lines kind_is opens_is next_is room =
+sought_on bytes rest line after at section found next kind opens was lines kind_is opens_is next_is
+    room =
     record {
-      same =
-          let before = option_map (λ (b : Begun). section_at b.at b.rest.now) found in
-          let later = part_from (at + 1) section (lines_of after) in
-          was.same ∙ one_on section at before line rest after lines
-          ∙ ap (λ k. or_later (found_or before (is_opened_by section k) (section_at at after)) later)
-          (sym kind_is)
-          ∙ ap (λ o. or_later (found_or before o (section_at at after)) later) (sym opens_is)
-          ∙ ap (λ f. or_later f later) (sym next_is);
+      same = rw (next_is, opens_is, kind_is) (was.same ∙ one_on section at _ line rest after lines);
       room = room;
     }
 
