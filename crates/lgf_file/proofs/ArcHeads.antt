@@ -13,8 +13,7 @@ use Rattle.lgf_file.specs.declared.documents.Link.{Link}
 -- Before the head was read there are no arcs.
 pub no_arcs : (nodes : Cells) (head : Option Head) (arcs : List Link) (labels : Cells)
     → ArcsSound nodes head arcs labels → head ≡ None → arcs ≡ []
-no_arcs nodes head arcs labels sound none =
-    (subst (λ own. ArcsSound nodes own arcs labels) none sound).1
+no_arcs nodes head arcs labels sound none = (rw none at sound).1
 
 -- A sole token that is - among these.
 pub sole_dash : (cells : Cells) → length cells ≡ 1 → is_among dash cells ≡ true → dash ∷ [] ≡ cells
@@ -34,5 +33,4 @@ some_columns (column ∷ columns) some = refl
 -- The row of the columns is all that was read while there are no arcs.
 pub head_alone : (nodes columns : Cells) (arcs : List Link) (cells : Cells) → arcs ≡ []
     → head_cells columns ≡ cells → arc_rows nodes columns arcs ≡ cells ∷ []
-head_alone nodes columns arcs cells none same =
-    ap (λ own. head_cells columns ∷ map (link_cells nodes) own) none ∙ ap (λ own. own ∷ []) same
+head_alone nodes columns arcs cells none same = rw (none, same) refl

@@ -1,6 +1,6 @@
 -- A node behind others.
-use Rattle.std.proofs.Common.{◌≡◌, ℕ, ◌<◌, false, List, [], ◌∷◌, ◌++◌, length, get_or, None, sym, ap, ◌∙◌, subst, arith, length-append}
-use Rattle.std.proofs.lemmas.List.{map-append}
+use Rattle.std.proofs.Common.{◌≡◌, false, List, [], ◌∷◌, ◌++◌, length, None, sym, ap, ◌∙◌, arith}
+use Rattle.std.proofs.lemmas.List.{map_push, length_push}
 use Rattle.std.proofs.lemmas.List.Elements.{All-push}
 use Rattle.base_items.specs.declared.limits.TheConstants.{MAX_NODES}
 use Rattle.token_text.specs.Names.{is_among, has_twice}
@@ -18,8 +18,7 @@ module _ (head : Head) (rows : List Cells) (labels cells : Cells) (was : AreNode
     (fresh : is_among (label_in head.columns cells) labels ≡ false) where
   -- The label of the node is none of those of the rows before it.
   label_apart : is_among (label_in head.columns cells) (labels_of head.columns rows) ≡ false
-  label_apart =
-      subst (λ own. is_among (label_in head.columns cells) own ≡ false) was.labels_are fresh
+  label_apart = rw was.labels_are at fresh
 
   -- Nothing is at fault with the row.
   pub node_right : node_row_fault head.columns rows cells ≡ None
@@ -30,31 +29,19 @@ module _ (head : Head) (rows : List Cells) (labels cells : Cells) (was : AreNode
       label_apart))
 
   -- The nodes with one more.
-  pub node_push : (after : List Cells) (labels_after : Cells) → after ≡ rows ++ cells ∷ []
-      → labels_after ≡ labels ++ label_in head.columns cells ∷ [] → AreNodes head after labels_after
-  node_push after labels_after after_is labels_after_is =
+  pub node_push : AreNodes head (rows ++ cells ∷ []) (labels ++ label_in head.columns cells ∷ [])
+  node_push =
       let label = label_in head.columns cells in
-      let all =
-      ap (labels_of head.columns) after_is ∙ map-append (label_in head.columns) rows (cells ∷ []) in
-      let IsWide : Cells → Type 0 = λ own. length own ≡ length head.columns in
+      let all = map_push (label_in head.columns) rows cells in
       record {
         head_ok = was.head_ok;
         table = record {
           columns_ok = was.table.columns_ok;
           labelled = was.table.labelled;
-          wide = subst (λ own. (k : ℕ) (d : Cells) → k < length own
-              → IsWide (get_or own k d)) (sym after_is)
-              (All-push IsWide rows cells was.table.wide wide);
+          wide = All-push (λ own. length own ≡ length head.columns) rows cells was.table.wide wide;
           labels_differ = ap has_twice all
               ∙ twice_push (labels_of head.columns rows) label was.table.labels_differ label_apart;
-          few = omega (
-            arith,
-            was.table.few,
-            room,
-            ap length after_is,
-            length-append rows
-                (cells ∷ []),
-          );
+          few = omega (arith, was.table.few, room, length_push rows cells);
         };
-        labels_are = labels_after_is ∙ ap (λ own. own ++ label ∷ []) was.labels_are ∙ sym all;
+        labels_are = ap (λ own. own ++ label ∷ []) was.labels_are ∙ sym all;
       }

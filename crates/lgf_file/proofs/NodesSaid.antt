@@ -49,8 +49,7 @@ row_said columns before cells right said =
     let holds : AreNodes head before labels =
     record { head_ok = refl; table = right; labels_are = refl } in
     let all = node_push head before labels cells holds (room_is MAX_NODES before room.0)
-    (width_is (length columns) cells rest.0) (untold TwiceLabel (is_among name labels) rest.1)
-    (before ++ cells ∷ []) (labels ++ name ∷ []) refl refl in
+    (width_is (length columns) cells rest.0) (untold TwiceLabel (is_among name labels) rest.1) in
     (cells, refl, all.table)
 
 rows_said : (columns : Cells) (rows : List Cells) → IsTable (table_with columns [])

@@ -44,12 +44,11 @@ returns-clause-fault c =
 
 pub returns-clause-sound : goal.returns-clause-sound
 returns-clause-sound c =
-    let rows = c.args.rows.now.items in
     let labels = c.args.labels.now in
-    let name = c.in_ok-label.label in
-    node_push c.args.head.now rows labels c.args.cells.items c.requires (room c) (wide c) (fresh c)
-    _ _
-    (c.in_ok-push.ensures.items ∙ ap (λ own. rows ++ own ∷ []) c.from_vec.ensures)
-    (c.in_ok-fresh.ensures.inserted
-    ∙ ap (λ fresh. if fresh then labels ++ name ∷ [] else labels) c.if-not-fresh.false
-    ∙ ap (λ own. labels ++ own ∷ []) (label c))
+    let all = c.in_ok-fresh.ensures.inserted
+    ∙ ap (λ fresh. if fresh then labels ++ c.in_ok-label.label ∷ [] else labels)
+    c.if-not-fresh.false
+    ∙ ap (λ own. labels ++ own ∷ []) (label c) in
+    rw (c.in_ok-push.ensures.items, c.from_vec.ensures, all)
+    (node_push c.args.head.now c.args.rows.now.items labels c.args.cells.items c.requires (room c)
+    (wide c) (fresh c))
