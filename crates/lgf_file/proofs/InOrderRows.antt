@@ -1,9 +1,14 @@
 -- Rows of which none is at fault behind those before it.
-use Rattle.std.proofs.Common.{◌≡◌, List, [], ◌∷◌, ◌++◌, None, Option, refl, sym, ap, ◌∙◌, subst, append_assoc, append-nil, map}
-use Rattle.std.proofs.lemmas.List.{map-id, map_push}
+use Rattle.std.proofs.Common.{◌≡◌, List, [], ◌∷◌, ◌++◌, None, Option, refl, sym, ap, ◌∙◌, subst}
+use Rattle.std.proofs.Common.{append_assoc, append-nil, map, ◌<◌, length, arith, length-append}
+use Rattle.std.proofs.lemmas.List.{map-id, map_push, map-append}
+use Rattle.std.specs.Prelude.{All}
+use Rattle.std.proofs.lemmas.List.Elements.{All-head, All-tail}
 use Rattle.lgf_file.specs.Rows.{Cells}
 use Rattle.lgf_file.specs.Reading.{InOrder}
 use Rattle.lgf_file.specs.declared.faults.LgfKind.{LgfKind}
+
+-- ---- rows of which none is at fault behind those before it
 
 module _ (fault : List Cells → Cells → Option LgfKind) where
   -- Rows that are made of items are in order, if none is at fault behind those of the items before
@@ -40,7 +45,7 @@ pub record Made {A : Type 0} (cells_of : A → Cells) (AreRight : List A
   pub right : AreRight items
   pub are : map cells_of items ≡ rows
 
--- Rows in order behind a start are those of items, if each row that isn't at fault is one item more.
+-- Rows in order behind a start are those of items, if each that isn't at fault is one item more.
 module _ {A : Type 0} (cells_of : A → Cells) (AreRight : List A → Type 0)
     (fault : List Cells → Cells → Option LgfKind) (start : List Cells)
     (next : (before : List A) (cells : Cells) → AreRight before
@@ -63,3 +68,24 @@ module _ {A : Type 0} (cells_of : A → Cells) (AreRight : List A → Type 0)
         right = rest.right;
         are = rest.are ∙ ap (λ all. all ++ more) pushed ∙ append_assoc rows (cells ∷ []) more;
       }
+
+-- ---- an item in the midst of others
+
+-- What holds of all holds of one in their midst.
+pub all_midst : {A : Type 0} (P : A → Type 0) (front : List A) (item : A) (more : List A)
+    → All P (front ++ item ∷ more) → P item
+all_midst P [] item more all = All-head P item more all
+all_midst P (first ∷ front) item more all =
+    all_midst P front item more (All-tail P first (front ++ item ∷ more) all)
+
+-- There are fewer items before one of them than there are in all.
+pub fewer_front : {A : Type 0} (front : List A) (item : A) (more : List A)
+    → length front < length (front ++ item ∷ more)
+fewer_front front item more = omega (arith, length-append front (item ∷ more))
+
+-- What is made of an item stands in the midst of what is made of all.
+pub made_midst : {A : Type 0} {B : Type 0} (made : A → B) (items front : List A) (item : A)
+    (more : List A)
+    → items ≡ front ++ item ∷ more → map made items ≡ map made front ++ made item ∷ map made more
+made_midst made items front item more split =
+    ap (map made) split ∙ map-append made front (item ∷ more)

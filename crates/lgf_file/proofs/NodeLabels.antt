@@ -1,5 +1,6 @@
 -- The place of the column of labels, and the label of a node.
-use Rattle.std.proofs.Common.{◌≡◌, ℕ, ◌<◌, ◌≤◌, Bool, true, cond, List, [], Some, None, Option, length, get_or, ⊎_elim, sym, ap, ◌∙◌, subst, arith}
+use Rattle.std.proofs.Common.{◌≡◌, ℕ, ◌<◌, ◌≤◌, Bool, true, cond, List, [], Some, None, Option}
+use Rattle.std.proofs.Common.{length, get_or, ⊎_elim, sym, ap, ◌∙◌, subst, arith}
 use Rattle.std.specs.Prelude.{IfSome}
 use Rattle.std.proofs.lemmas.Bool.{lt-ltb, cases_lt}
 use Rattle.std.proofs.lemmas.List.Folds.{Any-from_list_any}
@@ -11,7 +12,8 @@ use Rattle.std.proofs.lemmas.List.{get_or-map, get_or_default}
 use Rattle.std.proofs.lemmas.List.Elements.{All-get_or}
 use Rattle.token_text.specs.Names.{is_among}
 use Rattle.lgf_file.specs.Rows.{Cells}
-use Rattle.lgf_file.specs.Documents.{IsTable, label, label_place, cell_at, label_in, label_at, node_labels}
+use Rattle.lgf_file.specs.Documents.{IsTable, label, label_place, cell_at, label_in, label_at}
+use Rattle.lgf_file.specs.Documents.{node_labels}
 use Rattle.lgf_file.specs.declared.documents.Table.{Table}
 
 -- Where an item passes the test, the place of the first that does is one of theirs.

@@ -1,14 +1,13 @@
 -- Lines are read in one way alone, and each is read in some way.
-use Rattle.std.proofs.Common.{◌≡◌, ℕ, List, [], ◌∷◌, ◌++◌, Some, None, Option, refl, sym, ap, ◌∙◌, subst, append_assoc, append-nil}
+use Rattle.std.proofs.Common.{◌≡◌, ℕ, List, [], ◌∷◌, ◌++◌, Some, None, Option, refl, sym, ap, ◌∙◌}
 use Rattle.token_text.proofs.SomeReading.{TokensFrom, some_tokens}
 use Rattle.lgf_file.specs.Sections.{Line}
 use Rattle.lgf_file.specs.Rows.{Cells, Words, Rows}
-use Rattle.lgf_file.specs.Faults.{Reading, IsRead, AreRead, rows_read, told_or, first_bad}
+use Rattle.lgf_file.specs.Faults.{Reading, IsRead, AreRead, row_of, rows_read, row_fault}
+use Rattle.lgf_file.specs.Faults.{told_or, first_bad}
 use Rattle.lgf_file.specs.Reading.{InOrder}
 use Rattle.lgf_file.specs.declared.faults.LgfKind.{LgfKind}
-use Rattle.lgf_file.specs.declared.faults.LgfFault.{LgfFault}
-use Rattle.lgf_file.proofs.Tokens.{words_one}
-use Rattle.lgf_file.proofs.LineWords.{cells_of, has_words, no_words}
+use Rattle.lgf_file.proofs.LineTokens.{words_one, cells_of, has_words, no_words}
 
 -- ---- one way
 
@@ -52,28 +51,46 @@ some_readings (line ∷ lines) =
 
 -- ---- rows in order have no fault
 
--- Lines with these rows are read so.
-pub record ReadAs (lines : List Line) (rows : List Cells) : Type 0 where
-  pub readings : List Reading
-  pub are : AreRead lines readings
+-- How the first line and the others are read, where it can be read only so.
+pub first_read : (fault : List Cells → Cells → Option LgfKind) (before : List Cells) (line : Line)
+    (lines : List Line) (row : Option Cells) (readings : List Reading) → IsRead line.1 row
+    → AreRead (line ∷ lines) readings
+    → (rest : List Reading) × AreRead lines rest
+    × (first_bad fault before readings ≡ told_or line.0 (row_fault fault before row)
+    (first_bad fault (before ++ row_of row) rest))
+first_read fault before line lines row [] row_is are = absurd are
+first_read fault before line lines row (reading ∷ readings) row_is are =
+    let one = read_one line.1 reading.1 row are.1 row_is in (
+      readings,
+      are.2,
+      λ i. told_or (are.0 i) (row_fault fault before (one i))
+          (first_bad fault (before ++ row_of (one i)) readings),
+    )
+
+-- Lines with these rows are read so, and where the rows are in order without a fault.
+pub record ReadAs (readings : List Reading) (rows : List Cells) : Type 0 where
   pub rows_are : rows_read readings ≡ rows
   pub fine : (fault : List Cells → Cells → Option LgfKind) (before : List Cells)
       → InOrder fault before rows
       → first_bad fault before readings ≡ None
 
-pub read_as : (lines : List Line) (rows : List Cells) → Rows lines rows → ReadAs lines rows
-read_as [] [] are =
-    record { readings = []; are = tt; rows_are = refl; fine = λ fault before order. refl }
-read_as [] (cells ∷ rows) are = absurd are
-read_as (line ∷ lines) [] are = absurd are
-read_as (line ∷ lines) (cells ∷ rows) are =
-    let rest = read_as lines rows are.1 in
+pub read_as : (lines : List Line) (rows : List Cells) (readings : List Reading) → Rows lines rows
+    → AreRead lines readings → ReadAs readings rows
+read_as [] [] [] rows are = record { rows_are = refl; fine = λ fault before order. refl }
+read_as [] [] (reading ∷ readings) rows are = absurd are
+read_as [] (cells ∷ more) readings rows are = absurd rows
+read_as (line ∷ lines) [] readings rows are = absurd rows
+read_as (line ∷ lines) (cells ∷ more) [] rows are = absurd are
+read_as (line ∷ lines) (cells ∷ more) (reading ∷ readings) rows are =
+    let rest = read_as lines more readings rows.1 are.2 in
+    let one = read_one line.1 reading.1 (Some cells) are.1 rows.0 in
     record {
-      readings = (line.0, Some cells) ∷ rest.readings;
-      are = (refl, are.0, rest.are);
-      rows_are = ap (λ own. cells ∷ own) rest.rows_are;
+      rows_are = ap (λ row. row_of row ++ rows_read readings) one
+          ∙ ap (λ own. cells ∷ own) rest.rows_are;
       fine = λ fault before order.
-          ap (λ own. told_or line.0 own (first_bad fault (before ++ cells ∷ []) rest.readings))
+          (λ i. told_or reading.0 (row_fault fault before (one i))
+          (first_bad fault (before ++ row_of (one i)) readings))
+          ∙ ap (λ kind. told_or reading.0 kind (first_bad fault (before ++ cells ∷ []) readings))
           order.0
           ∙ rest.fine fault (before ++ cells ∷ []) order.1;
     }
@@ -82,23 +99,22 @@ read_as (line ∷ lines) (cells ∷ rows) are =
 pub rows_one : (lines : List Line) (one other : List Cells) → Rows lines one → Rows lines other
     → one ≡ other
 rows_one lines one other rows other_rows =
-    let first = read_as lines one rows in
-    let second = read_as lines other other_rows in
-    sym first.rows_are ∙ ap rows_read (readings_one lines _ _ first.are second.are)
-    ∙ second.rows_are
+    let read = some_readings lines in
+    sym (read_as lines one read.0 rows read.1).rows_are
+    ∙ (read_as lines other read.0 other_rows read.1).rows_are
+
+-- Lines are rows with these tokens, which are in order behind others.
+pub record AllRead (fault : List Cells → Cells
+    → Option LgfKind) (before : List Cells) (lines : List Line) (rows : List Cells) : Type 0 where
+  pub read_is : Rows lines rows
+  pub fine : InOrder fault before rows
 
 -- Lines without a fault have rows, which are in order.
-pub record NoneBad (fault : List Cells → Cells
-    → Option LgfKind) (before : List Cells) (lines : List Line)
-    (readings : List Reading) : Type 0 where
-  pub rows_are : Rows lines (rows_read readings)
-  pub fine : InOrder fault before (rows_read readings)
-
 pub none_bad : (fault : List Cells → Cells → Option LgfKind) (before : List Cells)
     (lines : List Line)
     (readings : List Reading) → AreRead lines readings → first_bad fault before readings ≡ None
-    → NoneBad fault before lines readings
-none_bad fault before [] [] are none = record { rows_are = tt; fine = tt }
+    → AllRead fault before lines (rows_read readings)
+none_bad fault before [] [] are none = record { read_is = tt; fine = tt }
 none_bad fault before [] (reading ∷ readings) are none = absurd are
 none_bad fault before (line ∷ lines) [] are none = absurd are
 none_bad fault before (line ∷ lines) ((number, None) ∷ readings) are none = absurd (cc)
@@ -107,45 +123,11 @@ none_bad fault before (line ∷ lines) ((number, Some cells) ∷ readings) are n
     none
   where
     by_found : (first_bad fault (before ++ cells ∷ []) readings ≡ None
-        → NoneBad fault (before ++ cells ∷ []) lines readings)
+        → AllRead fault (before ++ cells ∷ []) lines (rows_read readings))
         → (found : Option LgfKind) → fault before cells ≡ found
         → told_or number found (first_bad fault (before ++ cells ∷ []) readings) ≡ None
-        → NoneBad fault before (line ∷ lines) ((number, Some cells) ∷ readings)
+        → AllRead fault before (line ∷ lines) (cells ∷ rows_read readings)
     by_found next (Some kind) is told = absurd (cc)
     by_found next None is told =
         let rest = next told in
-        record { rows_are = (are.1, rest.rows_are); fine = (is, rest.fine) }
-
--- ---- a row at fault behind rows in order
-
--- The first fault of lines whose first rows are in order is that of the others behind them.
-pub record Behind (fault : List Cells → Cells
-    → Option LgfKind) (start : List Cells) (lines : List Line)
-    (later : Option LgfFault) : Type 0 where
-  pub readings : List Reading
-  pub are : AreRead lines readings
-  pub is : first_bad fault start readings ≡ later
-
-pub bad_behind : (fault : List Cells → Cells → Option LgfKind) (start : List Cells)
-    (before : List Line)
-    (read : List Cells) (left : List Line) (readings : List Reading) → Rows before read
-    → InOrder fault start read → AreRead left readings
-    → Behind fault start (before ++ left) (first_bad fault (start ++ read) readings)
-bad_behind fault start [] [] left readings rows order are = record {
-  readings = readings;
-  are = are;
-  is = ap (λ own. first_bad fault own readings) (sym (append-nil start));
-}
-bad_behind fault start [] (cells ∷ read) left readings rows order are = absurd rows
-bad_behind fault start (line ∷ before) [] left readings rows order are = absurd rows
-bad_behind fault start (line ∷ before) (cells ∷ read) left readings rows order are =
-    let rest =
-    bad_behind fault (start ++ cells ∷ []) before read left readings rows.1 order.1 are in
-    record {
-      readings = (line.0, Some cells) ∷ rest.readings;
-      are = (refl, rows.0, rest.are);
-      is = ap (λ own. told_or line.0 own (first_bad fault (start ++ cells ∷ []) rest.readings))
-          order.0
-          ∙ rest.is ∙ ap (λ own. first_bad fault own readings)
-          (append_assoc start (cells ∷ []) read);
-    }
+        record { read_is = (are.1, rest.read_is); fine = (is, rest.fine) }

@@ -1,5 +1,6 @@
 -- The written document spells its document.
-use Rattle.std.proofs.Common.{◌≡◌, ℕ, ◌+◌, ◌<◌, List, [], ◌∷◌, ◌++◌, map, length, true, Some, refl, sym, ap, ◌∙◌, subst, arith, append-nil}
+use Rattle.std.proofs.Common.{◌≡◌, ℕ, ◌+◌, ◌<◌, List, [], ◌∷◌, ◌++◌, map, length, true, Some, refl}
+use Rattle.std.proofs.Common.{sym, ap, ◌∙◌, subst, arith, append-nil}
 use Rattle.std.specs.Prelude.{codes, All}
 use Rattle.std.proofs.lemmas.List.{map-id}
 use Rattle.std.proofs.lemmas.List.Elements.{All-head, All-tail}
@@ -7,14 +8,19 @@ use Rattle.token_text.specs.Lines.{IsInside, lines_of}
 use Rattle.token_text.specs.Names.{is_among}
 use Rattle.lgf_file.specs.Sections.{kind_of, Line, rows_of, part, part_from, rows_in}
 use Rattle.lgf_file.specs.Rows.{Cells, Rows}
-use Rattle.lgf_file.specs.Documents.{Spells, IsDoc, label, node_labels, link_cells, label_at, attribute_cells}
-use Rattle.lgf_file.specs.Plain.{plain, plain_lines, row_text, head_text, attribute_lines, attribute_text}
+use Rattle.lgf_file.specs.Documents.{Spells, IsDoc, label, node_labels, link_cells, label_at}
+use Rattle.lgf_file.specs.Documents.{attribute_cells}
+use Rattle.lgf_file.specs.Plain.{plain, plain_lines, row_text, head_text, attribute_lines}
+use Rattle.lgf_file.specs.Plain.{attribute_text}
 use Rattle.lgf_file.specs.declared.documents.Doc.{Doc}
 use Rattle.lgf_file.specs.declared.documents.Link.{Link}
 use Rattle.lgf_file.specs.declared.sections.Section.TheVariants.{Nodes, Arcs, Attributes}
 use Rattle.lgf_file.specs.declared.sections.LineKind.TheVariants.{Row}
-use Rattle.lgf_file.proofs.WrittenRows.{row_words, head_words, attribute_words, row_is_row, head_is_row, attribute_is_row, inside_by_test, row_inside, head_inside, attribute_inside}
-use Rattle.lgf_file.proofs.WrittenSections.{Each, each_text, lines_joined, all_inside_both, IsRow, numbered, EndsRows, rows_numbered, rows_are, part_behind}
+use Rattle.lgf_file.proofs.WrittenLines.{row_words, head_words, attribute_words, row_is_row}
+use Rattle.lgf_file.proofs.WrittenLines.{head_is_row, attribute_is_row, inside_by_test, row_inside}
+use Rattle.lgf_file.proofs.WrittenLines.{head_inside, attribute_inside, Each, each_text}
+use Rattle.lgf_file.proofs.WrittenLines.{lines_joined, all_inside_both, IsRow, numbered, EndsRows}
+use Rattle.lgf_file.proofs.WrittenLines.{rows_numbered, rows_are, part_behind}
 
 -- Where a name is among others, there is one.
 some_among : (name : List ℕ) (names : Cells) → is_among name names ≡ true → 0 < length names
@@ -51,7 +57,8 @@ attributes_end [] number = refl
 attributes_end (attribute ∷ attributes) number = refl
 
 -- The lines of attributes have no line end.
-attributes_inside : (attributes : List (List ℕ × List ℕ)) → Each IsInside (attribute_lines attributes)
+attributes_inside : (attributes : List (List ℕ × List ℕ))
+    → Each IsInside (attribute_lines attributes)
 attributes_inside [] = tt
 attributes_inside (attribute ∷ attributes) =
     let texts = each_text IsInside attribute_text attribute_inside (attribute ∷ attributes) in

@@ -1,5 +1,7 @@
 -- A file spells a document or has a first fault.
-use Rattle.std.proofs.Common.{◌≡◌, ℕ, ◌+◌, ◌≤◌, ◌<◌, Bool, true, false, cond, List, [], ◌∷◌, length, Some, None, Option, Ok, ◌⊎◌, inl, inr, refl, subst, sym, ap, ◌∙◌, arith}
+use Rattle.std.proofs.Common.{◌≡◌, ℕ, ◌+◌, ◌≤◌, ◌<◌, Bool, true, false, cond, List, [], ◌∷◌, length}
+use Rattle.std.proofs.Common.{Some, None, Option, Ok, ◌⊎◌, inl, inr, refl, subst, sym, ap, ◌∙◌}
+use Rattle.std.proofs.Common.{arith}
 use Rattle.std.specs.Prelude.{nat_lt}
 use Rattle.std.proofs.lemmas.Bool.{ltb-false, le-ltb}
 use Rattle.std.proofs.lemmas.List.{length-map}
@@ -8,23 +10,24 @@ use Rattle.token_text.specs.Lines.{lines_of}
 use Rattle.lgf_file.specs.Sections.{Line, Part, part, rows_in}
 use Rattle.lgf_file.specs.Rows.{Cells, Words}
 use Rattle.lgf_file.specs.Documents.{Spells, IsDoc, IsTable, label_in, node_labels}
-use Rattle.lgf_file.specs.Faults.{Reading, AreRead, rows_read, first_bad, labels_read, fault_or, earlier, graph_fault, rows_fault, node_fault, arc_fault, attribute_fault}
+use Rattle.lgf_file.specs.Faults.{Reading, AreRead, rows_read, first_bad, labels_read, fault_or}
+use Rattle.lgf_file.specs.Faults.{earlier, graph_fault, rows_fault, node_fault, arc_fault}
+use Rattle.lgf_file.specs.Faults.{attribute_fault}
 use Rattle.lgf_file.specs.Laws.{HasFault}
-use Rattle.lgf_file.specs.Reading.{AllRead, PartsSpell}
+use Rattle.lgf_file.specs.Reading.{PartsSpell}
 use Rattle.lgf_file.specs.declared.sections.Section.{Section}
 use Rattle.lgf_file.specs.declared.sections.Section.TheVariants.{Nodes, Arcs, Attributes}
 use Rattle.lgf_file.specs.declared.documents.Doc.{Doc}
 use Rattle.lgf_file.specs.declared.documents.Table.{Table}
 use Rattle.lgf_file.specs.declared.faults.LgfFault.{LgfFault}
-use Rattle.lgf_file.specs.declared.faults.LgfKind.{LgfKind}
-use Rattle.lgf_file.proofs.RowWords.{first_has_token}
-use Rattle.lgf_file.proofs.SectionsDiffer.{opened_at}
+use Rattle.lgf_file.proofs.LineTokens.{first_has_token}
+use Rattle.lgf_file.proofs.SectionPlaces.{opened_at}
 use Rattle.lgf_file.proofs.Readings.{some_readings, none_bad}
-use Rattle.lgf_file.proofs.FaultParts.{no_nodes, no_arcs, arcs_first, rows_first}
-use Rattle.lgf_file.proofs.NodesSaid.{nodes_said}
-use Rattle.lgf_file.proofs.ArcsSaid.{arcs_said}
-use Rattle.lgf_file.proofs.AttributesSaid.{attributes_said}
-use Rattle.lgf_file.proofs.DocumentRead.{spelled}
+use Rattle.lgf_file.proofs.FirstFaults.{no_nodes, no_arcs, arcs_first, rows_first}
+use Rattle.lgf_file.proofs.NodeTables.{nodes_said}
+use Rattle.lgf_file.proofs.LinkLists.{arcs_said}
+use Rattle.lgf_file.proofs.AttributeLists.{attributes_said}
+use Rattle.lgf_file.proofs.SectionsRead.{spelled}
 
 -- The bytes spell a document, or have a first fault.
 abbrev pub SomeAnswer : List ℕ → Type 0
@@ -60,15 +63,6 @@ neither_earlier (Some one) (Some other) none = absurd (cc)
 few_labels : (table : Table) → IsTable table → length (node_labels table) ≤ MAX_NODES
 few_labels table right = omega (arith, right.few, length-map table.rows (label_in table.columns))
 
--- The rows are in order.
-all_in_order : (fault : List Cells → Cells → Option LgfKind) (lines : List Line)
-    (readings : List Reading)
-    → AreRead lines readings → first_bad fault [] readings ≡ None
-    → AllRead fault lines (rows_read readings)
-all_in_order fault lines readings are none =
-    let rows = none_bad fault [] lines readings are none in
-    record { read_is = rows.rows_are; fine = rows.fine }
-
 module _ (bytes : List ℕ) (nodes arcs : Part) (nodes_is : part Nodes (lines_of bytes) ≡ Some nodes)
     (arcs_is : part Arcs (lines_of bytes) ≡ Some arcs) (order : nodes.at ≤ arcs.at) where
   abbrev attributes : List Line
@@ -85,15 +79,15 @@ module _ (bytes : List ℕ) (nodes arcs : Part) (nodes_is : part Nodes (lines_of
       let links_fault = first_bad (arc_fault (labels_read (rows_read first))) [] second in
       let both = neither_or own links_fault parts.0 in
       let table = nodes_said nodes.rows (rows_read first)
-      (all_in_order node_fault nodes.rows first first_are both.0) in
+      (none_bad node_fault [] nodes.rows first first_are both.0) in
       let labels = node_labels table.table in
       let none_of =
       subst (λ names. first_bad (arc_fault names) [] second ≡ None) table.labels_are both.1 in
       let links = arcs_said labels (few_labels table.table table.right) arcs.rows (rows_read second)
       (has_token Arcs (lines_of bytes) arcs arcs_is)
-      (all_in_order (arc_fault labels) arcs.rows second second_are none_of) in
+      (none_bad (arc_fault labels) [] arcs.rows second second_are none_of) in
       let pairs = attributes_said attributes (rows_read third)
-      (all_in_order attribute_fault attributes third third_are parts.1) in
+      (none_bad attribute_fault [] attributes third third_are parts.1) in
       let doc : Doc = record {
         nodes = table.table;
         arc_columns = links.columns;

@@ -1,5 +1,6 @@
 -- Valid documents, and the bytes that spell them.
-use Rattle.std.specs.Prelude.{◌≡◌, ℕ, ◌<◌, ◌≤◌, true, false, List, [], ◌∷◌, length, All, codes, slice_index_or, map, Some, None, Option, position}
+use Rattle.std.specs.Prelude.{◌≡◌, ℕ, ◌<◌, ◌≤◌, true, false, List, [], ◌∷◌, length, All, codes}
+use Rattle.std.specs.Prelude.{slice_index_or, map, Some, None, Option, position}
 use Rattle.std.specs.Str.{bytes_eq}
 use Rattle.base_items.specs.declared.limits.TheConstants.{MAX_NODES, MAX_ARCS}
 use Rattle.token_text.specs.Lines.{lines_of}

@@ -1,5 +1,6 @@
 -- The first fault of a file that spells no document.
-use Rattle.std.specs.Prelude.{◌≡◌, ℕ, ◌+◌, ◌==◌, ◌&&◌, nat_lt, if◌then◌else◌, MatchBool, List, [], ◌∷◌, ◌++◌, length, map, drop, slice_index_or, Some, None, Option}
+use Rattle.std.specs.Prelude.{◌≡◌, ℕ, ◌+◌, ◌==◌, ◌&&◌, nat_lt, if◌then◌else◌, MatchBool, List, []}
+use Rattle.std.specs.Prelude.{◌∷◌, ◌++◌, length, map, drop, slice_index_or, Some, None, Option}
 use Rattle.base_items.specs.declared.limits.TheConstants.{MAX_NODES, MAX_ARCS}
 use Rattle.token_text.specs.Names.{is_among, has_twice}
 use Rattle.lgf_file.specs.Sections.{Line, Part, part, rows_in}
@@ -8,7 +9,11 @@ use Rattle.lgf_file.specs.Documents.{label, dash, label_in, labels_of}
 use Rattle.lgf_file.specs.declared.sections.Section.TheVariants.{Nodes, Arcs, Attributes}
 use Rattle.lgf_file.specs.declared.faults.LgfFault.{LgfFault}
 use Rattle.lgf_file.specs.declared.faults.LgfKind.{LgfKind}
-use Rattle.lgf_file.specs.declared.faults.LgfKind.TheVariants.{NoNodes, NoArcs, ArcsFirst, Token, TooMany, DashColumn, TwiceColumn, NoLabel, ShortRow, LongRow, UnknownLabel, TwiceLabel, TwiceAttribute}
+use Rattle.lgf_file.specs.declared.faults.LgfKind.TheVariants.{NoNodes, NoArcs, ArcsFirst, Token}
+use Rattle.lgf_file.specs.declared.faults.LgfKind.TheVariants.{TooMany, DashColumn, TwiceColumn}
+use Rattle.lgf_file.specs.declared.faults.LgfKind.TheVariants.{NoLabel, ShortRow, LongRow}
+use Rattle.lgf_file.specs.declared.faults.LgfKind.TheVariants.{UnknownLabel, TwiceLabel}
+use Rattle.lgf_file.specs.declared.faults.LgfKind.TheVariants.{TwiceAttribute}
 
 -- ---- what is at fault with the tokens of a row, by the rows of its section before it; the kinds
 -- of faults stand in the order in which they are told

@@ -1,9 +1,11 @@
 -- What the readers of rows hold. No public clause cites this module.
-use Rattle.std.specs.Prelude.{◌≡◌, ℕ, ◌<◌, ◌≤◌, ◌&&◌, Bool, if◌then◌else◌, List, [], ◌∷◌, ◌++◌, length, map, Some, None, Option}
+use Rattle.std.specs.Prelude.{◌≡◌, ℕ, ◌<◌, ◌≤◌, ◌&&◌, Bool, if◌then◌else◌, List, [], ◌∷◌, ◌++◌}
+use Rattle.std.specs.Prelude.{length, map, Some, None, Option}
 use Rattle.base_items.specs.declared.limits.TheConstants.{MAX_NODES}
 use Rattle.token_text.specs.Names.{is_among}
 use Rattle.lgf_file.specs.Rows.{Cells}
-use Rattle.lgf_file.specs.Documents.{label, label_at, label_in, label_place, labels_of, arc_labels, IsTable, AreArcs, AreAttributes, arc_rows}
+use Rattle.lgf_file.specs.Documents.{label, label_at, label_in, label_place, labels_of, arc_labels}
+use Rattle.lgf_file.specs.Documents.{IsTable, AreArcs, AreAttributes, arc_rows}
 use Rattle.lgf_file.specs.Faults.{first_cell, second_cell}
 use Rattle.lgf_file.specs.declared.heads.Head.{Head}
 use Rattle.lgf_file.specs.declared.documents.Link.{Link}

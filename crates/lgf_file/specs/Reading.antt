@@ -2,9 +2,9 @@
 use Rattle.std.specs.Prelude.{◌≡◌, ℕ, ◌+◌, List, [], ◌∷◌, ◌++◌, None, Some, Option, ⊤}
 use Rattle.token_text.specs.Lines.{lines_of}
 use Rattle.lgf_file.specs.Sections.{Line, rows_of}
-use Rattle.lgf_file.specs.Rows.{Cells, Rows}
+use Rattle.lgf_file.specs.Rows.{Cells}
 use Rattle.lgf_file.specs.Documents.{NodesSpell, ArcsSpell, AttributesSpell, node_labels}
-use Rattle.lgf_file.specs.Faults.{Reading, AreRead, first_bad, graph_fault, RowsFault}
+use Rattle.lgf_file.specs.Faults.{Reading, AreRead, first_bad, graph_fault, rows_fault}
 use Rattle.lgf_file.specs.declared.documents.Doc.{Doc}
 use Rattle.lgf_file.specs.declared.faults.LgfFault.{LgfFault}
 use Rattle.lgf_file.specs.declared.faults.LgfKind.{LgfKind}
@@ -17,40 +17,28 @@ InOrder fault before [] = Unit {0}
 InOrder fault before (cells ∷ rows) =
     (fault before cells ≡ None) × InOrder fault (before ++ cells ∷ []) rows
 
--- All the lines are rows with these tokens, and in order.
-pub record AllRead (fault : List Cells → Cells
-    → Option LgfKind) (lines : List Line) (read : List Cells) : Type 0 where
-  pub read_is : Rows lines read
-  pub fine : InOrder fault [] read
-
--- The first fault of the lines of a section.
-pub record HasBad (fault : List Cells → Cells
-    → Option LgfKind) (lines : List Line) (told : LgfFault) : Type 0 where
-  pub readings : List Reading
-  pub are : AreRead lines readings
-  pub is : first_bad fault [] readings ≡ Some told
+-- The lines of a section have this first fault, however they are read.
+abbrev pub Finds : (List Cells → Cells → Option LgfKind) → List Line → Option LgfFault → Type 0
+Finds fault lines found =
+    (readings : List Reading) → AreRead lines readings → first_bad fault [] readings ≡ found
 
 -- A fault of the file is the first one of the section.
 abbrev pub Blames : (List Cells → Cells → Option LgfKind) → List Line → DocFault → Type 0
-Blames fault lines (Lgf told) = HasBad fault lines told
+Blames fault lines (Lgf told) = Finds fault lines (Some told)
 Blames fault lines Memory = ⊤
-
--- The first fault of the lines of the nodes and the arcs.
-pub record GraphBad (nodes arcs : List Line) (told : LgfFault) : Type 0 where
-  pub node_readings : List Reading
-  pub arc_readings : List Reading
-  pub nodes_are : AreRead nodes node_readings
-  pub arcs_are : AreRead arcs arc_readings
-  pub is : graph_fault node_readings arc_readings ≡ Some told
 
 -- A fault of the file is the first one of the nodes and the arcs.
 abbrev pub GraphBlames : List Line → List Line → DocFault → Type 0
-GraphBlames nodes arcs (Lgf told) = GraphBad nodes arcs told
+GraphBlames nodes arcs (Lgf told) =
+    (first second : List Reading) → AreRead nodes first → AreRead arcs second
+    → graph_fault first second ≡ Some told
 GraphBlames nodes arcs Memory = ⊤
 
 -- A fault of the file is the first one of the three sections.
 abbrev pub PartsBlame : List Line → List Line → List Line → DocFault → Type 0
-PartsBlame nodes arcs attributes (Lgf told) = RowsFault nodes arcs attributes told
+PartsBlame nodes arcs attributes (Lgf told) =
+    (first second third : List Reading) → AreRead nodes first → AreRead arcs second
+    → AreRead attributes third → rows_fault first second third ≡ Some told
 PartsBlame nodes arcs attributes Memory = ⊤
 
 -- The rows of a section by the number of its first line and the bytes behind that line.

@@ -1,5 +1,6 @@
 -- The lines of a graph file by their kinds, and the sections that they make.
-use Rattle.std.specs.Prelude.{ℕ, ◌+◌, ◌==◌, ◌||◌, Bool, true, false, if◌then◌else◌, List, [], ◌∷◌, Some, None, Option, codes}
+use Rattle.std.specs.Prelude.{ℕ, ◌+◌, ◌==◌, ◌||◌, Bool, true, false, if◌then◌else◌, List, [], ◌∷◌}
+use Rattle.std.specs.Prelude.{Some, None, Option, codes}
 use Rattle.std.specs.Str.{bytes_eq}
 use Rattle.token_text.specs.Bytes.{is_blank}
 use Rattle.token_text.specs.Grammar.{after_blanks}

@@ -1,13 +1,15 @@
 //! The arcs of a graph file.
 
-ghost use Rattle.std.specs.Prelude.{◌≡◌, ◌<◌, ◌≤◌, ◌+◌, ◌∷◌, ◌++◌, [], length, map, IfOk, IfNone, IfSome, Some, None, List as Items};
+ghost use Rattle.std.specs.Prelude.{◌≡◌, ◌<◌, ◌≤◌, ◌+◌, ◌∷◌, ◌++◌, [], length, map, IfOk, IfNone};
+ghost use Rattle.std.specs.Prelude.{IfSome, Some, None, List as Items};
 ghost use Rattle.std.specs.Bool.{OnFalse};
 ghost use Rattle.base_items.specs.declared.limits.TheConstants.{MAX_NODES as NODE_LIMIT};
 ghost use Rattle.lgf_file.specs.Sections.{Line};
 ghost use Rattle.lgf_file.specs.Rows.{Rows};
 ghost use Rattle.lgf_file.specs.Documents.{AreArcs, ArcsSpell, link_cells};
 ghost use Rattle.lgf_file.specs.Faults as faults;
-ghost use Rattle.lgf_file.specs.Readers.{HoldsArcs, ArcsSound, IsEnds, IsHead, arcs_read, is_label_among, labels_with};
+ghost use Rattle.lgf_file.specs.Readers.{HoldsArcs, ArcsSound, IsEnds, IsHead, arcs_read};
+ghost use Rattle.lgf_file.specs.Readers.{is_label_among, labels_with};
 
 use crate::documents::Link;
 use crate::faults::LgfKind;
@@ -96,7 +98,8 @@ fn ends_of(nodes: &LabelTable, cells: &[Text]) -> Option<(u32, u32)>
     requires wide { 2 ≤ length cells.now }
     requires few { length nodes.now ≤ NODE_LIMIT }
     ensures found { IfSome result (λ ends. IsEnds nodes.now cells.now ends.0 ends.1) }
-    ensures none { IfNone result (faults.ends_fault nodes.now cells.now ≡ Some LgfKind.UnknownLabel) }
+    ensures none { IfNone result
+        (faults.ends_fault nodes.now cells.now ≡ Some LgfKind.UnknownLabel) }
 {
     let from = nodes.find(&cells[0])?;
     let to = nodes.find(&cells[1])?;

@@ -5,8 +5,8 @@ use token_text::Text;
 
 /// The nodes: the names of their columns, and a row for each node, with one text a column.
 ///
-/// In a valid document the names differ, none is `-`, and one is `label`; the labels differ too, and there
-/// are at most [`MAX_NODES`](base_items::MAX_NODES) rows.
+/// In a valid document the names differ, none is `-`, and one is `label`; the labels differ too,
+/// and there are at most [`MAX_NODES`](base_items::MAX_NODES) rows.
 #[derive(Drop)]
 pub struct Table {
     pub columns: List<Text>,
@@ -23,9 +23,9 @@ pub struct Link {
 
 /// What a graph file says: nodes, arcs and attributes, each in the order of the file.
 ///
-/// In a valid document the names of the arcs' columns differ and none is `-`; if one is `label`, the labels of
-/// the arcs differ; there are at most [`MAX_ARCS`](base_items::MAX_ARCS) arcs, and the names of the attributes
-/// differ.
+/// In a valid document the names of the arcs' columns differ and none is `-`; if one is `label`,
+/// the labels of the arcs differ; there are at most [`MAX_ARCS`](base_items::MAX_ARCS) arcs, and
+/// the names of the attributes differ.
 #[derive(Drop)]
 pub struct Doc {
     pub nodes: Table,

@@ -6,8 +6,8 @@ ghost use Rattle.lgf_file.specs.declared.faults.DocFault.TheVariants.{Memory as 
 
 use std::alloc::{AllocError, AllocFailed};
 
-/// What is wrong with a graph file. The first three are of the whole file and come before any other; of the
-/// others the first line that has one counts, and on it the first in this order.
+/// What is wrong with a graph file. The first three are of the whole file and come before any
+/// other; of the others the first line that has one counts, and on it the first in this order.
 #[derive(Clone, Copy, Debug, PartialEq, Eq)]
 pub enum LgfKind {
     /// There is no section of nodes. The line is the number of lines and one more.

@@ -1,4 +1,5 @@
-//! The first lines of nodes and of arcs, which name their columns, and the number of tokens of a row.
+//! The first lines of nodes and of arcs, which name their columns, and the number of tokens of a
+//! row.
 
 ghost use Rattle.std.specs.Prelude.{◌≡◌, ◌<◌, length, IfOk, IfSome};
 ghost use Rattle.token_text.specs.Names as names;

@@ -1,6 +1,7 @@
 //! Laws of documents. Each is a function that does nothing.
 
-ghost use Rattle.lgf_file.specs.Laws.{PlainSpells, OneDocument, FaultSpellsNone, OneFault, SomeAnswer};
+ghost use Rattle.lgf_file.specs.Laws.{PlainSpells, OneDocument, FaultSpellsNone, OneFault};
+ghost use Rattle.lgf_file.specs.Laws.{SomeAnswer};
 
 /// The written document spells its document. So what was written is read again as itself.
 pub fn plain_spells()

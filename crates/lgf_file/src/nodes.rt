@@ -100,8 +100,10 @@ fn take_node(
     requires { AreNodes head.now rows.old.items labels.old }
     ensures fault { IfOk result (λ found.
         found ≡ node_row_fault head.now.columns rows.old.items cells.items) }
-    ensures taken { IfOk result (λ found. IfNone found (rows.new.items ≡ rows.old.items ++ cells.items ∷ [])) }
-    ensures sound { IfOk result (λ found. IfNone found (AreNodes head.now rows.new.items labels.new)) }
+    ensures taken { IfOk result (λ found.
+        IfNone found (rows.new.items ≡ rows.old.items ++ cells.items ∷ [])) }
+    ensures sound { IfOk result (λ found.
+        IfNone found (AreNodes head.now rows.new.items labels.new)) }
 {
     if rows.len() == MAX_NODES as usize {
         return Ok(Some(LgfKind::TooMany));

@@ -1,9 +1,11 @@
 //! Bytes as a document.
 
-ghost use Rattle.std.specs.Prelude.{◌≡◌, ◌+◌, ◌<◌, ◌≤◌, ◌^◌, ◌∷◌, [], length, nat_lt, if◌then◌else◌, IfOk, IfErr, IfSome};
+ghost use Rattle.std.specs.Prelude.{◌≡◌, ◌+◌, ◌<◌, ◌≤◌, ◌^◌, ◌∷◌, [], length, nat_lt};
+ghost use Rattle.std.specs.Prelude.{if◌then◌else◌, IfOk, IfErr, IfSome};
 ghost use Rattle.std.specs.Option.{option_map_or};
 ghost use Rattle.base_items.specs.declared.limits.TheConstants.{MAX_NODES as NODE_LIMIT};
-ghost use Rattle.lgf_file.specs.Documents.{IsTable, AreArcs, AreAttributes, NodesSpell, ArcsSpell, AttributesSpell, IsDoc, Spells, node_labels};
+ghost use Rattle.lgf_file.specs.Documents.{IsTable, AreArcs, AreAttributes, NodesSpell, ArcsSpell};
+ghost use Rattle.lgf_file.specs.Documents.{AttributesSpell, IsDoc, Spells, node_labels};
 ghost use Rattle.lgf_file.specs.Faults.{node_fault, arc_fault, attribute_fault};
 ghost use Rattle.lgf_file.specs.Laws.{HasFault};
 ghost use Rattle.lgf_file.specs.Reading.{Blames, GraphBlames, PartsBlame, PartsSpell, rows_at};
@@ -24,8 +26,9 @@ use token_text::{LabelTable, Text};
 
 /// The document that the bytes spell, or the first fault where they spell none.
 ///
-/// Lines are numbered from 1. The faults of the whole file come first: `NoNodes`, `NoArcs` and `ArcsFirst`.
-/// Then comes the first bad line, and on it the first kind in the order of [`LgfKind`].
+/// Lines are numbered from 1. The faults of the whole file come first: `NoNodes`, `NoArcs` and
+/// `ArcsFirst`. Then comes the first bad line, and on it the first kind in the order of
+/// [`LgfKind`].
 pub fn read_doc(alloc: Global, bytes: &[u8]) -> Result<Doc, DocFault>
     ensures spelled { IfOk result (Spells bytes.now) }
     ensures valid { IfOk result IsDoc }
@@ -85,7 +88,8 @@ fn read_arcs(
 // The attributes of a section. There are none where it is absent.
 fn read_attributes(alloc: Global, begun: &Option<Begun<'_>>) -> Result<List<(Text, Text)>, DocFault>
     requires { IfSome begun.now (λ b. b.at + 1 + length b.rest.now < 2 ^ 64) }
-    ensures spelled { IfOk result (AttributesSpell (option_map_or (λ b. rows_at b.at b.rest.now) begun.now [])) }
+    ensures spelled { IfOk result
+        (AttributesSpell (option_map_or (λ b. rows_at b.at b.rest.now) begun.now [])) }
     ensures attributes { IfOk result AreAttributes }
     ensures bad { IfErr result
         (Blames attribute_fault (option_map_or (λ b. rows_at b.at b.rest.now) begun.now [])) }
@@ -114,7 +118,8 @@ fn read_graph(alloc: Global, nodes: &Begun<'_>, arcs: &Begun<'_>) -> Result<Grap
     ensures arcs_spelled { IfOk result (λ graph. ArcsSpell (rows_at arcs.now.at arcs.now.rest.now)
         (node_labels graph.nodes) graph.arc_columns graph.arcs) }
     ensures nodes { IfOk result (λ graph. IsTable graph.nodes) }
-    ensures arcs { IfOk result (λ graph. AreArcs (node_labels graph.nodes) graph.arc_columns graph.arcs) }
+    ensures arcs { IfOk result (λ graph.
+        AreArcs (node_labels graph.nodes) graph.arc_columns graph.arcs) }
     ensures bad { IfErr result (GraphBlames (rows_at nodes.now.at nodes.now.rest.now)
         (rows_at arcs.now.at arcs.now.rest.now)) }
 {

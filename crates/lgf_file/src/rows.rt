@@ -1,9 +1,11 @@
 //! The rows of a section, one after the other.
 
-ghost use Rattle.std.specs.Prelude.{◌≡◌, ◌+◌, ◌<◌, ◌≤◌, ◌^◌, ◌∷◌, ◌++◌, [], length, MatchOption, IfSome, IfOk, IfErr, IfNone, OnOk};
+ghost use Rattle.std.specs.Prelude.{◌≡◌, ◌+◌, ◌<◌, ◌≤◌, ◌^◌, ◌∷◌, ◌++◌, [], length, MatchOption};
+ghost use Rattle.std.specs.Prelude.{IfSome, IfOk, IfErr, IfNone, OnOk};
 ghost use Rattle.token_text.specs.Lines.{lines_of};
 ghost use Rattle.lgf_file.specs.Sections.{rows_of};
-ghost use Rattle.lgf_file.specs.Reading.{AllRead, Blames};
+ghost use Rattle.lgf_file.specs.Rows.{Rows};
+ghost use Rattle.lgf_file.specs.Reading.{Blames};
 
 use crate::faults::{DocFault, LgfFault, LgfKind};
 use crate::sections::{LineKind, kind_of};
@@ -68,20 +70,21 @@ pub trait RowReader {
     // What was made of them fits them.
     ghost IsSound: { Self → Type 0 };
 
-    /// Takes in a row with these tokens, or tells what is at fault with it. After a fault, and where memory
-    /// runs out, nothing is said of the reader.
+    /// Takes in a row with these tokens, or tells what is at fault with it. After a fault, and
+    /// where memory runs out, nothing is said of the reader.
     fn take(&mut self, alloc: Global, cells: Vec<Text>) -> Result<Option<LgfKind>, AllocError>
         requires sound { IsSound self.old }
         requires some { 0 < length cells.items }
-        ensures fault { IfOk result (λ found. found ≡ fault (labels self.old) (read self.old) cells.items) }
+        ensures fault { IfOk result (λ found.
+            found ≡ fault (labels self.old) (read self.old) cells.items) }
         ensures taken { IfOk result (λ found.
             IfNone found (read self.new ≡ read self.old ++ cells.items ∷ [])) }
         ensures sound { IfOk result (λ found. IfNone found (IsSound self.new)) }
         ensures labels { IfOk result (λ found. IfNone found (labels self.new ≡ labels self.old)) };
 }
 
-/// Takes in the rows of a section, whose first line has this number, up to its end or to the first row that
-/// is at fault.
+/// Takes in the rows of a section, whose first line has this number, up to its end or to the first
+/// row that is at fault.
 pub fn read_rows<R: RowReader>(
     alloc: Global,
     reader: &mut R,
@@ -91,11 +94,11 @@ pub fn read_rows<R: RowReader>(
     requires room { number + length bytes.now < 2 ^ 64 }
     requires sound { R.IsSound reader.old }
     requires first { R.read reader.old ≡ [] }
-    ensures read { OnOk result (AllRead (R.fault (R.labels reader.old))
-        (rows_of number (lines_of bytes.now)) (R.read reader.new)) }
+    ensures read { OnOk result (Rows (rows_of number (lines_of bytes.now)) (R.read reader.new)) }
     ensures sound { OnOk result (R.IsSound reader.new) }
     ensures labels { OnOk result (R.labels reader.new ≡ R.labels reader.old) }
-    ensures bad { IfErr result (Blames (R.fault (R.labels reader.old)) (rows_of number (lines_of bytes.now))) }
+    ensures bad { IfErr result
+        (Blames (R.fault (R.labels reader.old)) (rows_of number (lines_of bytes.now))) }
 {
     let mut rest = bytes;
     let mut at = number;

@@ -116,7 +116,8 @@ pub fn find_sections(bytes: &[u8]) -> Sections<'_>
         ≡ option_map (λ b. sought.section_at b.at b.rest.now) result.attributes }
     ensures nodes_room { IfSome result.nodes (λ b. b.at + length b.rest.now ≤ length bytes.now) }
     ensures arcs_room { IfSome result.arcs (λ b. b.at + length b.rest.now ≤ length bytes.now) }
-    ensures attributes_room { IfSome result.attributes (λ b. b.at + length b.rest.now ≤ length bytes.now) }
+    ensures attributes_room { IfSome result.attributes (λ b.
+        b.at + length b.rest.now ≤ length bytes.now) }
     ensures end { result.end ≡ length (lines_of bytes.now) + 1 }
 {
     let mut nodes = None;

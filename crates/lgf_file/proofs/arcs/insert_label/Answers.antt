@@ -1,5 +1,5 @@
 use Rattle.std.proofs.Common.{sym, ◌∙◌}
-use Rattle.lgf_file.proofs.ArcLabels.{no_label_among, no_label_with, label_among, label_with}
+use Rattle.lgf_file.proofs.ArcRows.{no_label_among, no_label_with, label_among, label_with}
 use Rattle.lgf_file.proofs.arcs.insert_label.Goals as goal
 
 pub returns-in_default-clause-twice : goal.returns-in_default-clause-twice

@@ -62,7 +62,7 @@ returns-clause-sound c =
     let head = c.args.head.now in
     let labels = c.args.labels.now in
     let values = c.from_vec-values.ensures ∙ sym c.as_slice.ensures.value in
-    subst (λ own. HoldsArcs nodes head own c.insert_label.new.labels) (sym c.in_ok-push.ensures.items)
+    rw c.in_ok-push.ensures.items
     (arc_behind nodes head c.args.arcs.now.items labels c.requires (room c) c.args.cells.items
     (wide c)
     _ _ (ends c) c.from_vec-values.result c.insert_label.new.labels

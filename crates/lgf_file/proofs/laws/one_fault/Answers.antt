@@ -1,4 +1,4 @@
-use Rattle.lgf_file.proofs.FaultAlone.{one_fault}
+use Rattle.lgf_file.proofs.FirstFaults.{one_fault}
 use Rattle.lgf_file.proofs.laws.one_fault.Goals as goal
 
 pub returns : goal.returns

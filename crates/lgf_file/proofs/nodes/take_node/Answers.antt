@@ -5,7 +5,7 @@ use Rattle.base_items.specs.declared.limits.TheConstants.{MAX_NODES}
 use Rattle.token_text.specs.Names.{is_among}
 use Rattle.lgf_file.specs.Documents.{label_in}
 use Rattle.lgf_file.proofs.NodeLabels.{place_in_cells}
-use Rattle.lgf_file.proofs.NodeRows.{node_right, node_push}
+use Rattle.lgf_file.proofs.NodeTables.{node_right, node_push}
 use Rattle.lgf_file.proofs.RowFaults.{width_is}
 use Rattle.lgf_file.proofs.nodes.take_node.Goals as goal
 

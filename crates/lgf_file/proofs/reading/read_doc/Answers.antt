@@ -5,8 +5,8 @@ use Rattle.token_text.specs.Lines.{lines_of}
 use Rattle.lgf_file.specs.Results.{Refuses}
 use Rattle.lgf_file.specs.Found.{section_at}
 use Rattle.lgf_file.specs.declared.sections.Begun.{Begun}
-use Rattle.lgf_file.proofs.FaultParts.{no_nodes, no_arcs, arcs_first}
-use Rattle.lgf_file.proofs.DocumentRead.{rows_found, refused, spelled, blamed, exact, exact_fault}
+use Rattle.lgf_file.proofs.FirstFaults.{no_nodes, no_arcs, arcs_first}
+use Rattle.lgf_file.proofs.SectionsRead.{rows_found, refused, spelled, blamed, exact, exact_fault}
 use Rattle.lgf_file.proofs.reading.read_doc.Goals as goal
 
 pub returns-in_default-clause-refused : goal.returns-in_default-clause-refused

@@ -1,6 +1,6 @@
 use Rattle.std.proofs.lemmas.Result.{err_from_is_err_and}
 use Rattle.lgf_file.specs.Reading.{rows_at}
-use Rattle.lgf_file.proofs.PartsRead.{nodes_blamed, arcs_blamed}
+use Rattle.lgf_file.proofs.SectionsRead.{nodes_blamed, arcs_blamed}
 use Rattle.lgf_file.proofs.reading.read_graph.Goals as goal
 
 pub returns-in_err-arc_columns-clause-bad : goal.returns-in_err-arc_columns-clause-bad

@@ -6,9 +6,11 @@ use Rattle.lgf_file.specs.Faults.{attribute_fault}
 use Rattle.lgf_file.specs.Reading.{Blames, GraphBlames, PartsBlame, rows_at}
 use Rattle.lgf_file.specs.declared.faults.DocFault.TheVariants.{Lgf}
 use Rattle.lgf_file.specs.declared.sections.Begun.{Begun}
-use Rattle.lgf_file.proofs.PartsRead.{graph_blamed, attributes_blamed, both_blamed}
+use Rattle.lgf_file.proofs.SectionsRead.{graph_blamed, attributes_blamed, both_blamed}
 use Rattle.lgf_file.proofs.reading.read_parts.Goals as goal
-use Rattle.lgf_file.proofs.reading.read_parts.Goals.{in-Ok-read_attributes, in-Err-Memory-read_attributes, in-Err-Lgf-read_attributes}
+use Rattle.lgf_file.proofs.reading.read_parts.Goals.{in-Ok-read_attributes}
+use Rattle.lgf_file.proofs.reading.read_parts.Goals.{in-Err-Memory-read_attributes}
+use Rattle.lgf_file.proofs.reading.read_parts.Goals.{in-Err-Lgf-read_attributes}
 
 pub returns-in_err-attributes-in-Ok-clause-bad : goal.returns-in_err-attributes-in-Ok-clause-bad
 returns-in_err-attributes-in-Ok-clause-bad c =
@@ -36,8 +38,8 @@ returns-after-read_attributes-clause-bad c =
       | in-Ok-read_attributes w ↦
           let read = w.in-Ok-read_attributes in
           subst (λ result. IfErr result (PartsBlame nodes arcs attributes)) (sym w.result-is)
-          (graph_blamed nodes arcs attributes fault read.field-0 read.ensures.attributes
-          read.ensures.spelled bad)
+          (graph_blamed nodes arcs attributes fault bad read.field-0 read.ensures.attributes
+          read.ensures.spelled)
       | in-Err-Memory-read_attributes w ↦
           subst (λ result. IfErr result (PartsBlame nodes arcs attributes)) (sym w.result-is) tt
       | in-Err-Lgf-read_attributes w ↦
@@ -46,5 +48,5 @@ returns-after-read_attributes-clause-bad c =
           subst (Blames attribute_fault attributes) read.field-0-is read.ensures.bad in
           subst (λ result. IfErr result (PartsBlame nodes arcs attributes)) (sym w.result-is)
           (subst (λ told. PartsBlame nodes arcs attributes (Lgf told)) (sym w.earlier.ensures)
-          (both_blamed nodes arcs attributes fault read.other bad other_bad))
+          (both_blamed nodes arcs attributes fault bad read.other other_bad))
     ]

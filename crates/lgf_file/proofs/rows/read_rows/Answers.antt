@@ -2,8 +2,8 @@ use Rattle.std.proofs.Common.{◌≡◌, ◌++◌, ◌∷◌, [], Some, None, re
 use Rattle.token_text.specs.Lines.{lines_of}
 use Rattle.lgf_file.specs.Sections.{rows_of}
 use Rattle.lgf_file.specs.declared.faults.LgfKind.TheVariants.{Token}
-use Rattle.lgf_file.proofs.Progress.{push, fail}
-use Rattle.lgf_file.proofs.RowWords.{first_has_token}
+use Rattle.lgf_file.proofs.Progress.{push, fail, finish}
+use Rattle.lgf_file.proofs.LineTokens.{first_has_token}
 use Rattle.lgf_file.proofs.rows.read_rows.Goals as goal
 
 pub returns-in-Some-3-clause-bad : goal.returns-in-Some-3-clause-bad
@@ -64,3 +64,8 @@ returns-in_default-2-clause-bad g c =
     (fail fault lines (reads.read c.rows.reader) _ _ (c.in-Some.row.number, c.in-Some.row.line.now)
     None Token
     c.rows.invariant.so_far c.in-Some.ensures.rows unread refl)
+
+pub returns-clause-read : goal.returns-clause-read
+returns-clause-read g c =
+    let lines = rows_of c.args.number (lines_of c.args.bytes.now) in
+    finish _ lines _ _ c.rows.invariant.so_far c.in_default.ensures.rows

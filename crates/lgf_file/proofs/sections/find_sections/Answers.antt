@@ -7,7 +7,7 @@ use Rattle.lgf_file.specs.declared.sections.Begun.{Begun}
 use Rattle.lgf_file.specs.declared.sections.LineKind.{LineKind}
 use Rattle.lgf_file.specs.declared.sections.Section.{Section}
 use Rattle.lgf_file.specs.declared.sections.Section.TheVariants.{Nodes, Arcs, Attributes}
-use Rattle.lgf_file.proofs.Found.{one_on}
+use Rattle.lgf_file.proofs.SectionPlaces.{one_on}
 use Rattle.lgf_file.proofs.sections.find_sections.Invariants.{Sought}
 use Rattle.lgf_file.proofs.sections.find_sections.Goals as goal
 

@@ -6,7 +6,7 @@ use Rattle.lgf_file.specs.Found.{section_at}
 use Rattle.lgf_file.specs.declared.sections.Begun.{Begun}
 use Rattle.lgf_file.specs.declared.sections.Section.{Section}
 use Rattle.lgf_file.specs.declared.sections.Section.TheVariants.{Nodes, Arcs, Attributes}
-use Rattle.lgf_file.proofs.Found.{or_later}
+use Rattle.lgf_file.proofs.SectionPlaces.{or_later}
 use Rattle.lgf_file.proofs.sections.find_sections.Given as goal
 
 -- The first section of its kind was found, or stands among the lines that are left.

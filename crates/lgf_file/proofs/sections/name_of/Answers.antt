@@ -1,6 +1,6 @@
 use Rattle.std.proofs.Common.{sym, ap, ◌∙◌}
 use Rattle.lgf_file.specs.Sections.{name_of}
-use Rattle.lgf_file.proofs.Found.{name_is}
+use Rattle.lgf_file.proofs.SectionPlaces.{name_is}
 use Rattle.lgf_file.proofs.sections.name_of.Goals as goal
 
 pub returns : goal.returns

@@ -1,7 +1,7 @@
 use Rattle.std.proofs.Common.{inl, inr, subst, arith}
 use Rattle.token_text.specs.Results.{Found, Faults}
 use Rattle.token_text.proofs.Places.{reads_on}
-use Rattle.lgf_file.proofs.WordsSoFar.{words_more, words_end, words_stop}
+use Rattle.lgf_file.proofs.LineTokens.{words_more, words_end, words_stop}
 use Rattle.lgf_file.proofs.words.read_words.Goals as goal
 
 pub tokens-smaller : goal.tokens-smaller

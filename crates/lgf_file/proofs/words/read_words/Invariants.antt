@@ -1,5 +1,5 @@
 use Rattle.std.proofs.Common.{◌-◌, length}
-use Rattle.lgf_file.proofs.WordsSoFar.{WordsSoFar}
+use Rattle.lgf_file.proofs.LineTokens.{WordsSoFar}
 use Rattle.lgf_file.proofs.words.read_words.Given as goal
 
 abbrev pub invariant-tokens : goal.invariant-tokens

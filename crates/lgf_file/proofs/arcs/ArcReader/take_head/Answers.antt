@@ -1,7 +1,7 @@
 use Rattle.std.proofs.Common.{ap, sym, ◌∙◌}
 use Rattle.token_text.specs.Names.{is_among}
 use Rattle.lgf_file.specs.Documents.{dash, head_cells}
-use Rattle.lgf_file.proofs.ArcHeads.{no_arcs, sole_dash, some_columns, head_alone}
+use Rattle.lgf_file.proofs.ArcRows.{no_arcs, sole_dash, some_columns, head_alone}
 use Rattle.lgf_file.proofs.arcs.ArcReader.take_head.Goals as goal
 
 pub returns-then-has_dash-clause-taken : goal.returns-then-has_dash-clause-taken

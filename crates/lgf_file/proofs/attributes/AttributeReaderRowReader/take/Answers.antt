@@ -4,7 +4,7 @@ use Rattle.std.proofs.lemmas.Bool.{not-true, not-false}
 use Rattle.token_text.specs.Names.{is_among}
 use Rattle.lgf_file.specs.Faults.{width_fault}
 use Rattle.lgf_file.specs.Readers.{AttributesSound}
-use Rattle.lgf_file.proofs.AttributeRows.{attribute_fault_is, attribute_behind}
+use Rattle.lgf_file.proofs.AttributeLists.{attribute_fault_is, attribute_behind}
 use Rattle.lgf_file.proofs.attributes.AttributeReaderRowReader.take.Goals as goal
 
 pub returns-then-not-fresh-clause-fault : goal.returns-then-not-fresh-clause-fault
