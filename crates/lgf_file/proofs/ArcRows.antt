@@ -2,8 +2,7 @@
 use Rattle.std.proofs.Common.{◌≡◌, ◌<◌, true, false, List, [], ◌∷◌, None, Option, length, ⊎_elim}
 use Rattle.std.proofs.Common.{refl, ap, ◌∙◌, subst, arith, map, ℕ, Bool, ◌++◌, Some, sym, ◌+◌}
 use Rattle.std.specs.Str.{bytes_eq}
-use Rattle.std.proofs.lemmas.Bool.{or_cases, false_from_ne_true, not-false, OnFalse_from, and_left}
-use Rattle.std.proofs.lemmas.Bool.{and_right, and_from}
+use Rattle.std.proofs.lemmas.Bool.{or_cases, false_from_ne_true, not-false, OnFalse_from, and_right}
 use Rattle.std.proofs.lemmas.Slice.Eq.{bytes_eq-Decides}
 use Rattle.std.specs.Bool.{OnFalse}
 use Rattle.std.specs.Prelude.{◌&&◌, not, if◌then◌else◌}
@@ -160,9 +159,7 @@ differ_push columns arcs arc differ apart labelled =
 pub source_unknown : (nodes cells : Cells) → IsNoneOf (first_cell cells) nodes
     → ends_fault nodes cells ≡ Some UnknownLabel
 source_unknown nodes cells none =
-    ap (λ test. if test then None else Some UnknownLabel)
-    (and_left (is_among (first_cell cells) nodes) (is_among (second_cell cells) nodes)
-    (test_from_none (first_cell cells) nodes none))
+    rw (test_from_none (first_cell cells) nodes none) refl
 
 -- The target is no node.
 pub target_unknown : (nodes cells : Cells) → IsNoneOf (second_cell cells) nodes
@@ -176,10 +173,9 @@ target_unknown nodes cells none =
 ends_known : (nodes cells : Cells) (from to : ℕ) → IsEnds nodes cells from to
     → ends_fault nodes cells ≡ None
 ends_known nodes cells from to ends =
-    ap (λ test. if test then None else Some UnknownLabel)
-    (and_from (is_among (first_cell cells) nodes) (is_among (second_cell cells) nodes)
-    (subst (λ own. is_among own nodes ≡ true) ends.from_is (among_at nodes from ends.from_in))
-    (subst (λ own. is_among own nodes ≡ true) ends.to_is (among_at nodes to ends.to_in)))
+    let from_among = rw ends.from_is at (among_at nodes from ends.from_in) in
+    let to_among = rw ends.to_is at (among_at nodes to ends.to_in) in
+    rw (from_among, to_among) refl
 
 -- Arcs between nodes, of which there may be one more, and the tokens of a row whose ends are nodes.
 module _ (nodes : Cells) (head : Head) (arcs : List Link) (labels : Cells)

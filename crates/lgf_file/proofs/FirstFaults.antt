@@ -28,16 +28,14 @@ use Rattle.lgf_file.proofs.AttributeLists.{attributes_fine}
 -- ---- the first fault of a file by its sections
 
 module _ (lines : List (List ℕ)) where
-  abbrev end : ℕ
-  end = length lines + 1
-
-  pub no_nodes : (number : ℕ) → part Nodes lines ≡ None → number ≡ end
+  pub no_nodes : (number : ℕ) → part Nodes lines ≡ None
+      → number ≡ length lines + 1
       → FirstFault lines (record { line = number; kind = NoNodes })
   no_nodes number none number_is =
       rw none (ap (λ own. record { line = own; kind = NoNodes }) number_is)
 
   pub no_arcs : (number : ℕ) (nodes : Part) → part Nodes lines ≡ Some nodes → part Arcs lines ≡ None
-      → number ≡ end → FirstFault lines (record { line = number; kind = NoArcs })
+      → number ≡ length lines + 1 → FirstFault lines (record { line = number; kind = NoArcs })
   no_arcs number nodes nodes_is none number_is =
       rw (nodes_is, none) (ap (λ own. record { line = own; kind = NoArcs }) number_is)
 

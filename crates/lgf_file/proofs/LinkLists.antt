@@ -1,8 +1,8 @@
 -- Arcs: rows without a fault are those of one list.
-use Rattle.std.proofs.Common.{◌≡◌, ◌+◌, Bool, true, false, List, [], ◌∷◌, ◌++◌, length, None, Some}
-use Rattle.std.proofs.Common.{refl, sym, ap, ◌∙◌, subst, arith, map, ◌≤◌, ◌<◌, ℕ}
+use Rattle.std.proofs.Common.{◌≡◌, ◌+◌, Bool, true, false, List, [], ◌∷◌, ◌++◌, length, None}
+use Rattle.std.proofs.Common.{refl, sym, ap, ◌∙◌, subst, arith, map, ◌≤◌, ◌<◌}
 use Rattle.std.specs.Prelude.{All, if◌then◌else◌}
-use Rattle.std.proofs.lemmas.Bool.{and_from, and_parts}
+use Rattle.std.proofs.lemmas.Bool.{and_parts}
 use Rattle.std.proofs.lemmas.List.{length-map}
 use Rattle.std.proofs.lemmas.List.Elements.{All-head, All-tail}
 use Rattle.base_items.specs.declared.limits.TheConstants.{MAX_ARCS, MAX_NODES}
@@ -41,10 +41,7 @@ named_head (column ∷ other ∷ columns) no_dash = refl
 ends_fine : (labels columns : Cells) (arc : Link) → IsLink labels columns arc
     → ends_fault labels (link_cells labels arc) ≡ None
 ends_fine labels columns arc link =
-    ap (λ test. if test then None else Some UnknownLabel)
-    (and_from (is_among (label_at labels arc.from) labels)
-    (is_among (label_at labels arc.to) labels)
-    (among_at labels arc.from link.0) (among_at labels arc.to link.1))
+    rw (among_at labels arc.from link.0, among_at labels arc.to link.1) refl
 
 module _ (labels columns : Cells) (arcs : List Link) (right : AreArcs labels columns arcs) where
   -- The label of an arc didn't stand before.

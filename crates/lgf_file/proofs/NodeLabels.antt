@@ -1,6 +1,6 @@
 -- The place of the column of labels, and the label of a node.
-use Rattle.std.proofs.Common.{◌≡◌, ℕ, ◌<◌, ◌≤◌, Bool, true, cond, List, [], Some, None, Option}
-use Rattle.std.proofs.Common.{length, get_or, ⊎_elim, sym, ap, ◌∙◌, subst, arith}
+use Rattle.std.proofs.Common.{◌≡◌, ℕ, ◌<◌, ◌≤◌, Bool, true, List, [], Some, None, Option}
+use Rattle.std.proofs.Common.{length, get_or, ⊎_elim, refl, sym, ap, ◌∙◌, subst, arith}
 use Rattle.std.specs.Prelude.{IfSome}
 use Rattle.std.proofs.lemmas.Bool.{lt-ltb, cases_lt}
 use Rattle.std.proofs.lemmas.List.Folds.{Any-from_list_any}
@@ -31,8 +31,7 @@ first_within test items any =
 pub place_there : (columns : Cells) → is_among label columns ≡ true
     → label_place columns ≡ Some (position_or_len (bytes_eq label) columns)
 place_there columns among =
-    let first = first_within (bytes_eq label) columns among in
-    ap (λ test. cond test (Some (position_or_len (bytes_eq label) columns)) None) (lt-ltb _ _ first)
+    rw (lt-ltb _ _ (first_within (bytes_eq label) columns among)) refl
 
 -- The place of the labels is that of a column.
 pub place_within : (columns : Cells) (place : ℕ) → label_place columns ≡ Some place

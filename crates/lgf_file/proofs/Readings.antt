@@ -2,7 +2,7 @@
 use Rattle.std.proofs.Common.{◌≡◌, ℕ, List, [], ◌∷◌, ◌++◌, Some, None, Option, refl, sym, ap, ◌∙◌}
 use Rattle.token_text.proofs.SomeReading.{TokensFrom, some_tokens}
 use Rattle.lgf_file.specs.Sections.{Line}
-use Rattle.lgf_file.specs.Rows.{Cells, Words, Rows}
+use Rattle.lgf_file.specs.Rows.{Cells, Rows}
 use Rattle.lgf_file.specs.Faults.{Reading, IsRead, AreRead, row_of, rows_read, row_fault}
 use Rattle.lgf_file.specs.Faults.{told_or, first_bad}
 use Rattle.lgf_file.specs.Reading.{InOrder}

@@ -1,21 +1,20 @@
 -- Rows and names with a fault and without.
 use Rattle.std.proofs.Common.{◌≡◌, ℕ, ◌<◌, Bool, true, false, List, [], length, Some, None, Option}
-use Rattle.std.proofs.Common.{refl, sym, ap, ◌∙◌, arith}
+use Rattle.std.proofs.Common.{refl, sym, ◌∙◌, arith}
 use Rattle.std.specs.Prelude.{if◌then◌else◌}
 use Rattle.std.specs.Str.{bytes_eq}
 use Rattle.std.proofs.lemmas.List.{get_or_default}
 use Rattle.std.proofs.lemmas.List.Folds.{Any-from_list_any}
 use Rattle.std.proofs.lemmas.Slice.Eq.{bytes_eq-Decides}
-use Rattle.token_text.specs.Names.{is_among, has_twice}
+use Rattle.token_text.specs.Names.{is_among}
 use Rattle.lgf_file.specs.Rows.{Cells}
-use Rattle.lgf_file.specs.Documents.{AreColumns, dash, label_at}
+use Rattle.lgf_file.specs.Documents.{AreColumns, label_at}
 use Rattle.lgf_file.specs.Faults.{or_else, columns_fault, room_fault, width_fault, twice_fault}
 use Rattle.lgf_file.specs.declared.faults.LgfKind.{LgfKind}
-use Rattle.lgf_file.specs.declared.faults.LgfKind.TheVariants.{DashColumn, TwiceColumn}
 
 -- There isn't the first of two faults.
 pub passed : (one other : Option LgfKind) → one ≡ None → or_else one other ≡ other
-passed one other none = ap (λ first. or_else first other) none
+passed one other none = rw none refl
 
 -- Nor either of them.
 pub neither : (one other : Option LgfKind) → one ≡ None → other ≡ None → or_else one other ≡ None
@@ -57,15 +56,12 @@ width_is wanted cells none = grind arith
 -- The name didn't stand before.
 pub not_twice : (kind : LgfKind) (name : List ℕ) (names : Cells) → is_among name names ≡ false
     → twice_fault kind name names ≡ None
-not_twice kind name names none = ap (λ test. if test then Some kind else None) none
+not_twice kind name names none = rw none refl
 
 -- Names of columns are without a fault.
 pub columns_right : (columns : Cells) → AreColumns columns → columns_fault columns ≡ None
 columns_right columns right =
-    ap (λ test. if test then Some DashColumn else
-    (if has_twice columns then Some TwiceColumn else None))
-    right.no_dash
-    ∙ ap (λ test. if test then Some TwiceColumn else None) right.differ
+    rw (right.no_dash, right.differ) refl
 
 pub columns_are : (columns : Cells) → columns_fault columns ≡ None → AreColumns columns
 columns_are columns none = record { differ = grind arith; no_dash = grind arith }

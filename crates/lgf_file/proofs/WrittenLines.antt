@@ -6,17 +6,17 @@ use Rattle.std.specs.Prelude.{◌==◌, ◌&&◌, not}
 use Rattle.std.specs.List.{flat_map, list_all}
 use Rattle.std.proofs.lemmas.Bool.{and_parts}
 use Rattle.token_text.specs.Bytes.{is_blank}
-use Rattle.token_text.specs.Grammar.{after_blanks, Next}
-use Rattle.token_text.specs.Lines.{IsInside, is_comment, lines_of, ended}
+use Rattle.token_text.specs.Grammar.{Next}
+use Rattle.token_text.specs.Lines.{IsInside, lines_of, ended}
 use Rattle.token_text.specs.Written.{written, is_bare, starts_bare, is_bare_byte, spelled}
 use Rattle.token_text.proofs.WrittenLaws.{written_reads, written_inside}
 use Rattle.token_text.proofs.FirstLine.{lines_first}
-use Rattle.lgf_file.specs.Sections.{kind_of, kind_from, section_named, name_of, is_opened_by, Line}
+use Rattle.lgf_file.specs.Sections.{kind_of, is_opened_by, Line}
 use Rattle.lgf_file.specs.Sections.{with_line, rows_of, Part, part_from}
 use Rattle.lgf_file.specs.Rows.{Cells, Words, Rows}
 use Rattle.lgf_file.specs.Documents.{dash, head_cells, attribute_cells}
 use Rattle.lgf_file.specs.Plain.{cell_text, row_text, head_text, attribute_text}
-use Rattle.lgf_file.specs.declared.sections.LineKind.TheVariants.{Passed, Opens, Row}
+use Rattle.lgf_file.specs.declared.sections.LineKind.TheVariants.{Row}
 use Rattle.lgf_file.specs.declared.sections.Section.{Section}
 use Rattle.lgf_file.specs.declared.sections.Section.TheVariants.{Nodes, Arcs, Attributes}
 
@@ -76,11 +76,7 @@ bare_begins byte bytes starts bare =
     let visible : is_blank byte ≡ false = grind arith in
     let no_comment : (byte == 35) ≡ false = grind arith in
     let no_section : (byte == 64) ≡ false = grind arith in
-    let opens = Opens (section_named (name_of bytes)) in
-    let left = ap (λ blank. cond blank (after_blanks bytes) (byte ∷ bytes)) visible in
-    ap (λ own. cond (is_comment own) Passed (kind_from own)) left
-    ∙ ap (λ comment. cond comment Passed (cond (byte == 64) opens Row)) no_comment
-    ∙ ap (λ section. cond section opens Row) no_section
+    rw (visible, no_comment, no_section) refl
 
 -- A text that needs no quotes begins a row.
 bare_row : (cell rest : List ℕ) → is_bare cell ≡ true → kind_of (cell ++ rest) ≡ Row

@@ -2,7 +2,7 @@ use Rattle.std.proofs.Common.{◌≡◌, ◌+◌, false, length, None, ap, sym, 
 use Rattle.std.proofs.lemmas.Bool.{OnFalse_at}
 use Rattle.base_items.specs.declared.limits.TheConstants.{MAX_ARCS}
 use Rattle.lgf_file.specs.Faults.{width_fault}
-use Rattle.lgf_file.specs.Readers.{HoldsArcs, IsEnds, is_label_among, labels_with}
+use Rattle.lgf_file.specs.Readers.{IsEnds, is_label_among, labels_with}
 use Rattle.lgf_file.proofs.ArcRows.{arc_fault_is, arc_behind}
 use Rattle.lgf_file.proofs.arcs.take_arc.Goals as goal
 

@@ -1,10 +1,8 @@
-use Rattle.std.proofs.Common.{[], sym, subst}
-use Rattle.std.specs.Prelude.{IfErr}
+use Rattle.std.proofs.Common.{[], subst}
 use Rattle.std.specs.Option.{option_map_or}
 use Rattle.std.proofs.lemmas.Result.{err_from_is_err_and}
 use Rattle.lgf_file.specs.Faults.{attribute_fault}
-use Rattle.lgf_file.specs.Reading.{Blames, GraphBlames, PartsBlame, rows_at}
-use Rattle.lgf_file.specs.declared.faults.DocFault.TheVariants.{Lgf}
+use Rattle.lgf_file.specs.Reading.{Blames, GraphBlames, rows_at}
 use Rattle.lgf_file.specs.declared.sections.Begun.{Begun}
 use Rattle.lgf_file.proofs.SectionsRead.{graph_blamed, attributes_blamed, both_blamed}
 use Rattle.lgf_file.proofs.reading.read_parts.Goals as goal
@@ -37,16 +35,15 @@ returns-after-read_attributes-clause-bad c =
     elim c.match-read_attributes.branch [
       | in-Ok-read_attributes w ↦
           let read = w.in-Ok-read_attributes in
-          subst (λ result. IfErr result (PartsBlame nodes arcs attributes)) (sym w.result-is)
+          rw w.result-is
           (graph_blamed nodes arcs attributes fault bad read.field-0 read.ensures.attributes
           read.ensures.spelled)
       | in-Err-Memory-read_attributes w ↦
-          subst (λ result. IfErr result (PartsBlame nodes arcs attributes)) (sym w.result-is) tt
+          rw w.result-is tt
       | in-Err-Lgf-read_attributes w ↦
           let read = w.in-Err-Lgf-read_attributes in
           let other_bad =
           subst (Blames attribute_fault attributes) read.field-0-is read.ensures.bad in
-          subst (λ result. IfErr result (PartsBlame nodes arcs attributes)) (sym w.result-is)
-          (subst (λ told. PartsBlame nodes arcs attributes (Lgf told)) (sym w.earlier.ensures)
-          (both_blamed nodes arcs attributes fault bad read.other other_bad))
+          rw (w.result-is, w.earlier.ensures)
+          (both_blamed nodes arcs attributes fault bad read.other other_bad)
     ]
