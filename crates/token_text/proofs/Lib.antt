@@ -1,5 +1,6 @@
 pub mod EscapeLaws
 pub mod Places
+pub mod PlainBytes
 pub mod Outcomes
 pub mod WrittenLaws
 pub mod Determined
@@ -9,3 +10,4 @@ pub mod TokensSoFar
 pub mod Digits
 pub mod FirstLine
 pub mod NamePlaces
+pub mod Quads

@@ -1,5 +1,5 @@
 -- How escapes are read, as functions. No public clause cites this module.
-use Rattle.std.specs.Prelude.{ℕ, ◌+◌, ◌*◌, ◌==◌, nat_le, if◌then◌else◌, List, [], ◌∷◌, Some, None, Option}
+use Rattle.std.specs.Prelude.{ℕ, ◌+◌, ◌*◌, ◌==◌, ◌&&◌, Bool, not, nat_le, if◌then◌else◌, List, [], ◌∷◌, Some, None, Option}
 use Rattle.token_text.specs.Bytes.{is_itself, letter_byte, hex_value, octal_value}
 use Rattle.token_text.specs.Grammar.{digit_at}
 
@@ -65,3 +65,7 @@ quoted_byte (byte ∷ rest) =
     if byte == 34 then None
     else (if byte == 92 then escape rest
     else Some (byte, rest))
+
+-- Whether the byte stands for itself in quotes: it is no quote and no backslash.
+abbrev pub is_plain : ℕ → Bool
+is_plain byte = not (byte == 34) && not (byte == 92)

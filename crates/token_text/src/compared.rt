@@ -4,9 +4,9 @@ ghost use Rattle.std.specs.Prelude.{Some, nat_eq, refl};
 ghost use Rattle.std.specs.Str.{bytes_eq};
 ghost use Rattle.std.specs.Ordering.{nat_cmp};
 ghost use Rattle.std.specs.Cmp.Lexicographic.{slice_cmp};
-ghost use Rattle.std.specs.Hash as fed;
 ghost use Rattle.std.proofs.Common.{rules};
 ghost use Rattle.std.specs.Cmp.Rules.{comparing, hashing};
+ghost use Rattle.token_text.specs.Hashed.{quads};
 
 use crate::texts::Text;
 use std::cmp::Ordering;
@@ -50,12 +50,21 @@ impl Ord for Text {
     }
 }
 
+// Four bytes at a time, and last the fewer than four that are left. A hasher mixes after each, so
+// that no label of a plain form undoes what stands before.
 impl Hash for Text {
-    ghost hash_input = { λ text. fed.slice fed.u8 text };
+    ghost hash_input = { quads };
 
     ghost respects_eq = { Prim.search (hashing, rules) };
 
+    #[tactic(auto, using(crate::proofs::Quads::next_quad, crate::proofs::Quads::last_quad))]
     fn hash<H: Hasher>(&self, state: &mut H) {
-        self.as_bytes().hash(state);
+        let mut rest = self.as_bytes();
+        while rest.len() >= 4 {
+            let (quad, after) = rest.split_at(4);
+            state.write(quad);
+            rest = after;
+        }
+        state.write(rest);
     }
 }

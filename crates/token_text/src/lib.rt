@@ -4,6 +4,7 @@
 
 mod compared;
 mod escapes;
+mod kept;
 mod label_table;
 mod laws;
 mod line_tokens;

@@ -1,6 +1,7 @@
 //! Tokens: how the next one of a line is read.
 
 ghost use Rattle.std.specs.Prelude.{◌≡◌, ◌≤◌, ◌+◌, true, None, ◌++◌, length, IfOk, IfErr};
+ghost use Rattle.std.specs.List.{list_all};
 ghost use Rattle.token_text.specs.Grammar.{QuotedBytes, IsStop, after_blanks, is_word_bytes};
 ghost use Rattle.token_text.specs.Bytes as bytes;
 ghost use Rattle.token_text.specs.Scan as scan;
@@ -75,18 +76,41 @@ pub fn split_word(text: &[u8]) -> (&[u8], &[u8])
     text.split_at(text.len())
 }
 
+fn is_plain(byte: u8) -> bool
+    ensures { result ≡ scan.is_plain byte }
+{
+    byte != b'"' && byte != b'\\'
+}
+
+// The bytes up to the next quote or backslash, and what follows them.
+fn split_plain(text: &[u8]) -> (&[u8], &[u8])
+    ensures split { text.now ≡ result.0.now ++ result.1.now }
+    ensures plain { list_all scan.is_plain result.0.now ≡ true }
+{
+    for i in 0..text.len() {
+        if !is_plain(text[i]) {
+            return text.split_at(i);
+        }
+    }
+    text.split_at(text.len())
+}
+
 // The bytes in quotes, and what follows the last one that can be read.
 fn read_quoted(alloc: Global, text: &[u8]) -> Result<(Text, &[u8]), AllocError>
     ensures quoted { IfOk result (λ read. QuotedBytes text.now read.0 read.1.now) }
     ensures stop { IfOk result (λ read. scan.quoted_byte read.1.now ≡ None) }
 {
-    let mut bytes = Vec::new(alloc);
-    let mut rest = text;
+    let (plain, after) = split_plain(text);
+    if quoted_byte(after).is_none() {
+        return Ok((copy_text(alloc, plain)?, after));
+    }
+    let mut bytes = Vec::from_slice(alloc, plain)?;
+    let mut rest = after;
     while let Some((byte, after)) = quoted_byte(rest) {
         bytes.push(byte)?;
         rest = after;
     }
-    Ok((Text::from_vec(bytes), rest))
+    Ok((copy_text(alloc, bytes.as_slice())?, rest))
 }
 
 /// The next token from a place of the line on, or None where only blanks follow.

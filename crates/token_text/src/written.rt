@@ -4,7 +4,7 @@ ghost use Rattle.std.specs.Prelude.{◌≡◌, ◌++◌, length, take, IfOk, OnO
 ghost use Rattle.std.specs.List.{list_all};
 ghost use Rattle.token_text.specs.Written as written;
 
-use crate::texts::Text;
+use crate::texts::{Text, copy_text};
 use std::alloc::{AllocError, Global};
 
 fn is_bare_byte(byte: u8) -> bool
@@ -93,5 +93,5 @@ pub fn token_bytes(alloc: Global, bytes: &[u8]) -> Result<Text, AllocError>
 {
     let mut out = Vec::new(alloc);
     push_token(&mut out, bytes)?;
-    Ok(Text::from_vec(out))
+    copy_text(alloc, out.as_slice())
 }
