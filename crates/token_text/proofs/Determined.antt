@@ -1,9 +1,12 @@
 -- From a place of a line on stands one thing alone.
-use Rattle.std.proofs.Common.{◌≡◌, ℕ, true, List, [], ◌∷◌, ◌++◌, length, drop, Some, None, Option, refl, sym, ap, ◌∙◌, subst, arith, length-drop}
+use Rattle.std.proofs.Common.{◌≡◌, ℕ, true, List, [], ◌∷◌, ◌++◌, length, drop, Some, None, Option}
+use Rattle.std.proofs.Common.{refl, sym, ap, ◌∙◌, subst, arith, length-drop}
 use Rattle.std.specs.Prelude.{not}
 use Rattle.std.proofs.lemmas.Bool.{and_parts}
 use Rattle.token_text.specs.Bytes.{is_blank}
-use Rattle.token_text.specs.Grammar.{Escape, QuotedBytes, IsPlain, IsStop, is_word_bytes, Word, plain_word, quoted_word, after_blanks, Reads, NoToken, BadBackslash, NoClose}
+use Rattle.token_text.specs.Grammar.{Escape, QuotedBytes, IsPlain, IsStop, is_word_bytes, Word}
+use Rattle.token_text.specs.Grammar.{plain_word, quoted_word, after_blanks, Reads, NoToken}
+use Rattle.token_text.specs.Grammar.{BadBackslash, NoClose}
 use Rattle.token_text.specs.Scan.{escape, quoted_byte}
 use Rattle.token_text.specs.Laws.{Stands, token, nothing, bad_backslash, open_quote, Meets}
 use Rattle.token_text.proofs.EscapeLaws.{quoted_byte_is, escape_from}
@@ -93,7 +96,7 @@ closed text bytes end more (plain_word is plain stop) quote =
     absurd (plain_no_quote bytes end more plain (sym is ∙ quote))
 closed text bytes end more (quoted_word inner is read) quote =
     let mores : inner ≡ more = cc in
-    subst (λ own. QuotedBytes own bytes (34 ∷ end)) mores read
+    rw (← mores) read
 
 -- No token stands where nothing is left.
 pub no_word : (text bytes end : List ℕ) → Word text bytes end → text ≡ [] → ⊥

@@ -1,10 +1,14 @@
 -- The functions that read an escape give just what the grammar says.
-use Rattle.std.proofs.Common.{◌≡◌, ℕ, ◌+◌, ◌*◌, ◌≤◌, Bool, true, false, cond, List, [], ◌∷◌, Some, None, Option, refl, sym, ap, ◌∙◌, arith}
+use Rattle.std.proofs.Common.{◌≡◌, ℕ, ◌+◌, ◌*◌, ◌≤◌, Bool, true, false, cond, List, [], ◌∷◌, Some}
+use Rattle.std.proofs.Common.{None, Option, refl, sym, ap, ◌∙◌, arith}
 use Rattle.std.specs.Prelude.{◌==◌, option_map}
 use Rattle.std.proofs.lemmas.Bool.{eq-eqb, ne_eqb, eqb-true, cond-true, cond-false}
 use Rattle.token_text.specs.Bytes.{is_itself, letter_byte, hex_value, octal_value}
-use Rattle.token_text.specs.Grammar.{digit_at, Digit, Escape, itself, letter, hex_1, hex_2, octal_1, octal_2, octal_3, QuotedByte, plain, escaped}
-use Rattle.token_text.specs.Scan.{ByteAndRest, or_then, hex, hex_pair, after_hex, octal, after_one, after_two, after_three, at_most_a_byte, letter_or_octal, escape, quoted_byte}
+use Rattle.token_text.specs.Grammar.{digit_at, Digit, Escape, itself, letter, hex_1, hex_2, octal_1}
+use Rattle.token_text.specs.Grammar.{octal_2, octal_3, QuotedByte, plain, escaped}
+use Rattle.token_text.specs.Scan.{ByteAndRest, or_then, hex, hex_pair, after_hex, octal, after_one}
+use Rattle.token_text.specs.Scan.{after_two, after_three, at_most_a_byte, letter_or_octal, escape}
+use Rattle.token_text.specs.Scan.{quoted_byte}
 
 none_then : {A B : Type 0} (found : Option A) (none : B) (some : A → B) → found ≡ None
     → or_then found none some ≡ none

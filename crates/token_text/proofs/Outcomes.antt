@@ -1,13 +1,16 @@
 -- What `read_token` found, told over plain lists.
-use Rattle.std.proofs.Common.{◌≡◌, ℕ, ◌-◌, Bool, true, false, List, [], ◌∷◌, ◌++◌, length, take, drop, cond, length-drop, Some, None, refl, sym, ap, ◌∙◌, subst, arith}
+use Rattle.std.proofs.Common.{◌≡◌, ℕ, ◌-◌, Bool, true, false, List, [], ◌∷◌, ◌++◌, length, take}
+use Rattle.std.proofs.Common.{drop, cond, length-drop, Some, None, refl, sym, ap, ◌∙◌, subst, arith}
 use Rattle.std.specs.Prelude.{◌==◌}
 use Rattle.std.proofs.lemmas.Bool.{ne_eqb, eqb-true, cond-false}
 use Rattle.std.proofs.lemmas.List.{take_all}
 use Rattle.token_text.specs.Bytes.{is_blank}
-use Rattle.token_text.specs.Grammar.{QuotedBytes, after_blanks, is_word_bytes, IsPlain, IsStop, Word, plain_word, quoted_word, Reads, BadBackslash, NoClose}
+use Rattle.token_text.specs.Grammar.{QuotedBytes, after_blanks, is_word_bytes, IsPlain, IsStop}
+use Rattle.token_text.specs.Grammar.{Word, plain_word, quoted_word, Reads, BadBackslash, NoClose}
 use Rattle.token_text.specs.Scan.{quoted_byte, escape}
 use Rattle.token_text.proofs.EscapeLaws.{escape_is}
-use Rattle.token_text.proofs.Places.{Ends, ends_behind, ends_tail, ends_step, ends_on, ends_length, ends_drop, drop_ends, quoted_ends, blanks_end, first_visible}
+use Rattle.token_text.proofs.Places.{Ends, ends_behind, ends_tail, ends_step, ends_on, ends_length}
+use Rattle.token_text.proofs.Places.{ends_drop, drop_ends, quoted_ends, blanks_end, first_visible}
 
 -- Where nothing more can be read but no quote stands, there is a backslash, and behind it no
 -- escape.
@@ -50,8 +53,7 @@ module _ (line : List ℕ) (at : ℕ) (text : List ℕ)
   reads start end bytes rest word ends start_at end_at =
       let behind = ends_drop line rest end ends (omega (arith, ends_length line rest ends)) in
       record {
-        word = subst (λ own. Word own bytes (drop end line)) found
-            (subst (Word text bytes) (sym behind) word);
+        word = rw behind (rw (← found) word);
         start_is = omega (arith, ap length found, ends_length line text text_ends);
         end_in = omega (arith, ends_length line rest ends);
       }

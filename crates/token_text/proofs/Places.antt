@@ -1,8 +1,12 @@
 -- What stands at the end of a text, and where.
-use Rattle.std.proofs.Common.{◌≡◌, ℕ, zero, suc, ◌+◌, ◌≤◌, ◌<◌, Bool, true, false, cond, List, [], ◌∷◌, ◌++◌, length, drop, Some, None, Option, refl, sym, ap, ◌∙◌, subst, arith, append_assoc, length-append, length-drop}
+use Rattle.std.proofs.Common.{◌≡◌, ℕ, zero, suc, ◌+◌, ◌≤◌, ◌<◌, Bool, true, false, cond, List, []}
+use Rattle.std.proofs.Common.{◌∷◌, ◌++◌, length, drop, Some, None, Option, refl, sym, ap, ◌∙◌}
+use Rattle.std.proofs.Common.{arith, append_assoc, length-append, length-drop}
 use Rattle.std.specs.Prelude.{option_map}
 use Rattle.token_text.specs.Bytes.{is_blank}
-use Rattle.token_text.specs.Grammar.{Digit, Escape, itself, letter, hex_1, hex_2, octal_1, octal_2, octal_3, QuotedByte, plain, escaped, QuotedBytes, Word, plain_word, quoted_word, Reads, after_blanks}
+use Rattle.token_text.specs.Grammar.{Digit, Escape, itself, letter, hex_1, hex_2, octal_1, octal_2}
+use Rattle.token_text.specs.Grammar.{octal_3, QuotedByte, plain, escaped, QuotedBytes, Word}
+use Rattle.token_text.specs.Grammar.{plain_word, quoted_word, Reads, after_blanks}
 
 -- The text ends with the rest.
 pub record Ends (text rest : List ℕ) : Type 0 where
@@ -103,7 +107,7 @@ pub quoted_push : (text bytes rest : List ℕ) (byte : ℕ) (more : List ℕ)
     → QuotedBytes text bytes rest → QuotedByte rest byte more
     → QuotedBytes text (bytes ++ byte ∷ []) more
 quoted_push text [] rest byte more is quoted_byte =
-    (more, subst (λ start. QuotedByte start byte more) (sym is) quoted_byte, refl)
+    (more, rw is quoted_byte, refl)
 quoted_push text (first ∷ bytes) rest byte more read quoted_byte =
     (read.0, read.1, quoted_push read.0 bytes rest byte more read.2 quoted_byte)
 

@@ -1,5 +1,6 @@
 -- The tokens of a line as far as it has been read.
-use Rattle.std.proofs.Common.{ℕ, ◌<◌, ◌≤◌, List, [], ◌∷◌, ◌++◌, length, Option, All, subst, arith, append_assoc}
+use Rattle.std.proofs.Common.{ℕ, ◌<◌, ◌≤◌, List, [], ◌∷◌, ◌++◌, length, Option, All, arith}
+use Rattle.std.proofs.Common.{append_assoc}
 use Rattle.std.proofs.lemmas.List.{append-nil}
 use Rattle.std.proofs.lemmas.List.Elements.{All-push}
 use Rattle.token_text.specs.Grammar.{Reads}
@@ -50,4 +51,4 @@ reading_more line at tokens token reading reads =
 pub before_stop : (line : List ℕ) (at : ℕ) (tokens : List Token) (fault : Option ℕ)
     → Before line at tokens → Stops line at fault → HasTokens line 0 tokens fault
 before_stop line at tokens fault before stops =
-    subst (λ own. HasTokens line 0 own fault) (append-nil tokens) (before [] fault stops)
+    rw (← append-nil tokens) (before [] fault stops)

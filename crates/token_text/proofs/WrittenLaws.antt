@@ -1,12 +1,17 @@
 -- What is written reads as itself, and has no line end.
-use Rattle.std.proofs.Common.{◌≡◌, ℕ, ◌+◌, ◌*◌, ◌/◌, ◌%◌, ◌≤◌, ◌<◌, Bool, true, false, cond, eqb, ◌≢◌, List, [], ◌∷◌, ◌++◌, Some, ◌⊎◌, inl, inr, ⊎_elim, refl, sym, ap, ◌∙◌, subst, arith, append_assoc, length, drop, length-append}
+use Rattle.std.proofs.Common.{◌≡◌, ℕ, ◌+◌, ◌*◌, ◌/◌, ◌%◌, ◌≤◌, ◌<◌, Bool, true, false, cond, eqb}
+use Rattle.std.proofs.Common.{◌≢◌, List, [], ◌∷◌, ◌++◌, Some, ◌⊎◌, inl, inr, ⊎_elim, refl, sym, ap}
+use Rattle.std.proofs.Common.{◌∙◌, subst, arith, append_assoc, length, length-append}
 use Rattle.std.specs.Prelude.{◌&&◌, not, IsTrue, option_map}
 use Rattle.std.specs.List.{list_all, flat_map}
 use Rattle.std.proofs.lemmas.Bool.{and_parts}
 use Rattle.std.proofs.lemmas.Bool.Decides.{eqb_tells, leb_tells}
 use Rattle.token_text.specs.Bytes.{is_blank, is_itself, letter_byte, octal_value}
-use Rattle.token_text.specs.Grammar.{Digit, Escape, itself, letter, octal_3, QuotedByte, plain, escaped, QuotedBytes, IsPlain, IsStop, is_word_bytes, Reads, Word, plain_word, quoted_word, after_blanks, Next}
-use Rattle.token_text.specs.Written.{is_bare_byte, starts_bare, is_bare, octal_digits, spelled, quoted, written}
+use Rattle.token_text.specs.Grammar.{Digit, Escape, itself, letter, octal_3, QuotedByte, plain}
+use Rattle.token_text.specs.Grammar.{escaped, QuotedBytes, IsPlain, IsStop, is_word_bytes, Reads}
+use Rattle.token_text.specs.Grammar.{Word, plain_word, quoted_word, after_blanks, Next}
+use Rattle.token_text.specs.Written.{is_bare_byte, starts_bare, is_bare, octal_digits, spelled}
+use Rattle.token_text.specs.Written.{quoted, written}
 use Rattle.token_text.specs.Lines.{IsInside}
 use Rattle.token_text.proofs.Places.{drop_front, ends_behind, ends_drop}
 
@@ -103,16 +108,13 @@ octal_escape byte rest low =
 spelled_byte : (byte : ℕ) (rest : List ℕ) → Spelling byte
     → QuotedByte (spelled byte ++ rest) byte rest
 spelled_byte byte rest (by_itself own is no_end) =
-    subst (λ text. QuotedByte (text ++ rest) byte rest) (sym is)
-    (escaped (byte ∷ rest) refl (itself refl own))
+    rw is (escaped (byte ∷ rest) refl (itself refl own))
 spelled_byte byte rest (by_letter name own is no_end) =
-    subst (λ text. QuotedByte (text ++ rest) byte rest) (sym is)
-    (escaped (name ∷ rest) refl (letter name refl own))
+    rw is (escaped (name ∷ rest) refl (letter name refl own))
 spelled_byte byte rest (by_octal low is) =
-    subst (λ text. QuotedByte (text ++ rest) byte rest) (sym is)
-    (escaped (octal_digits byte ++ rest) refl (octal_escape byte rest low))
+    rw is (escaped (octal_digits byte ++ rest) refl (octal_escape byte rest low))
 spelled_byte byte rest (as_it_is no_quote no_slash is no_end) =
-    subst (λ text. QuotedByte (text ++ rest) byte rest) (sym is) (plain refl no_quote no_slash)
+    rw is (plain refl no_quote no_slash)
 
 spelled_quoted : (bytes rest : List ℕ)
     → QuotedBytes ((flat_map spelled bytes ++ 34 ∷ []) ++ rest) bytes (34 ∷ rest)
@@ -122,7 +124,7 @@ spelled_quoted (byte ∷ bytes) rest =
     let text : (flat_map spelled (byte ∷ bytes) ++ 34 ∷ []) ++ rest ≡ spelled byte ++ more =
     simp append_assoc in
     let first = spelled_byte byte more (spelling_of byte) in
-    (more, subst (λ own. QuotedByte own byte more) (sym text) first, spelled_quoted bytes rest)
+    (more, rw text first, spelled_quoted bytes rest)
 
 bare_visible : (byte : ℕ) → is_bare_byte byte ≡ true → is_blank byte ≡ false
 bare_visible byte bare = grind arith
@@ -159,7 +161,7 @@ bare_reads : (bytes rest : List ℕ) → is_bare bytes ≡ true → IsStop rest
     → Next (bytes ++ rest) bytes rest
 bare_reads bytes rest bare stop =
     let word : Word (bytes ++ rest) bytes rest = plain_word refl (bare_plain bytes bare) stop in
-    subst (λ text. Word text bytes rest) (sym (bare_starts bytes rest bare)) word
+    rw (bare_starts bytes rest bare) word
 
 pub written_reads : (bytes rest : List ℕ) → IsStop rest → Next (written bytes ++ rest) bytes rest
 written_reads bytes rest stop = by_test (is_bare bytes) refl
@@ -193,9 +195,8 @@ written_stands front bytes rest stop =
     let ends = ends_behind line (front ++ written bytes) rest split in
     let end = ends_drop line rest (length front + length (written bytes)) ends (omega arith) in
     let next = written_reads bytes rest stop in
-    let word = subst (λ own. Word (after_blanks own) bytes rest) (sym start) next in
     record {
-      word = subst (Word (after_blanks (drop (length front) line)) bytes) (sym end) word;
+      word = rw end (rw start next);
       start_is = omega (arith, ap length (ap after_blanks start ∙ written_starts bytes rest));
       end_in = omega arith;
     }

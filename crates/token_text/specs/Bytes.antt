@@ -1,5 +1,6 @@
 -- What single bytes are in the grammar of tokens.
-use Rattle.std.specs.Prelude.{ℕ, ◌-◌, ◌==◌, ◌&&◌, ◌||◌, Bool, not, nat_le, if◌then◌else◌, Some, None, Option}
+use Rattle.std.specs.Prelude.{ℕ, ◌-◌, ◌==◌, ◌&&◌, ◌||◌, Bool, not, nat_le, if◌then◌else◌, Some}
+use Rattle.std.specs.Prelude.{None, Option}
 
 -- A blank: one of the bytes 9, 11, 12, 13 and 32.
 abbrev pub is_blank : ℕ → Bool

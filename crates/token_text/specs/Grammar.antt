@@ -1,7 +1,9 @@
 -- The grammar of tokens. The rest, here and below, is what follows in the line.
-use Rattle.std.specs.Prelude.{◌≡◌, ℕ, ◌+◌, ◌*◌, ◌≤◌, Bool, IsTrue, if◌then◌else◌, List, [], ◌∷◌, ◌++◌, length, drop, Some, None, Option, option_map}
+use Rattle.std.specs.Prelude.{◌≡◌, ℕ, ◌+◌, ◌*◌, ◌≤◌, Bool, IsTrue, if◌then◌else◌, List, [], ◌∷◌}
+use Rattle.std.specs.Prelude.{◌++◌, length, drop, Some, None, Option, option_map}
 use Rattle.std.specs.List.{list_all}
-use Rattle.token_text.specs.Bytes.{is_blank, is_visible, is_itself, letter_byte, hex_value, octal_value}
+use Rattle.token_text.specs.Bytes.{is_blank, is_visible, is_itself, letter_byte, hex_value}
+use Rattle.token_text.specs.Bytes.{octal_value}
 
 -- What the digit at the head of a text is worth, and the rest. None where no digit stands there.
 abbrev pub digit_at : (ℕ → Option ℕ) → List ℕ → Option (ℕ × List ℕ)

@@ -1,5 +1,6 @@
 -- How escapes are read, as functions. No public clause cites this module.
-use Rattle.std.specs.Prelude.{ℕ, ◌+◌, ◌*◌, ◌==◌, ◌&&◌, Bool, not, nat_le, if◌then◌else◌, List, [], ◌∷◌, Some, None, Option}
+use Rattle.std.specs.Prelude.{ℕ, ◌+◌, ◌*◌, ◌==◌, ◌&&◌, Bool, not, nat_le, if◌then◌else◌, List, []}
+use Rattle.std.specs.Prelude.{◌∷◌, Some, None, Option}
 use Rattle.token_text.specs.Bytes.{is_itself, letter_byte, hex_value, octal_value}
 use Rattle.token_text.specs.Grammar.{digit_at}
 

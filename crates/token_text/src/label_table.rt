@@ -1,6 +1,7 @@
 //! A table of labels: each stands at a place of its own, and none stands twice.
 
-ghost use Rattle.std.specs.Prelude.{◌≡◌, ◌-◌, ◌<◌, ◌==◌, ◌∷◌, ◌++◌, [], length, take, slice_get, not, if◌then◌else◌, Some, MatchOption, IfOk, OnOk, OnErr};
+ghost use Rattle.std.specs.Prelude.{◌≡◌, ◌-◌, ◌<◌, ◌==◌, ◌∷◌, ◌++◌, [], length, take, slice_get};
+ghost use Rattle.std.specs.Prelude.{not, if◌then◌else◌, Some, MatchOption, IfOk, OnOk, OnErr};
 ghost use Rattle.token_text.specs.Names.{IsNoneOf, is_among};
 
 use crate::texts::Text;

@@ -1,6 +1,7 @@
 //! Laws of tokens, of their written spelling and of ints. Each is a function that does nothing.
 
-ghost use Rattle.token_text.specs.Laws.{OneReading, SomeReading, SomeTokens, WrittenReads, WrittenStands, WrittenInside, DecimalReads};
+ghost use Rattle.token_text.specs.Laws.{OneReading, SomeReading, SomeTokens, WrittenReads};
+ghost use Rattle.token_text.specs.Laws.{WrittenStands, WrittenInside, DecimalReads};
 
 /// From a place of a line on stands one thing alone: a token, nothing, a bad backslash or an open
 /// quote.

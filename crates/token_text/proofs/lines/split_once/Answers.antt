@@ -1,4 +1,5 @@
-use Rattle.std.proofs.Common.{◌-◌, ◌+◌, ◌++◌, ◌∷◌, ◌≤◌, length, take, drop, get_or, sym, ap, ◌∙◌, arith, drop-cons, add-one, length-drop, subst}
+use Rattle.std.proofs.Common.{◌-◌, ◌+◌, ◌++◌, ◌∷◌, ◌≤◌, length, take, drop, get_or, sym, ap, ◌∙◌}
+use Rattle.std.proofs.Common.{arith, drop-cons, add-one, length-drop, subst}
 use Rattle.std.proofs.lemmas.List.{take-append-drop, take_all}
 use Rattle.token_text.specs.Lines.{LacksByte}
 use Rattle.token_text.proofs.FirstLine.{inside_from}

@@ -1,5 +1,4 @@
-use Rattle.std.proofs.Common.{sym, subst}
-use Rattle.token_text.specs.Grammar.{QuotedBytes}
+use Rattle.std.proofs.Common.{sym}
 use Rattle.token_text.proofs.EscapeLaws.{quoted_byte_from}
 use Rattle.token_text.proofs.PlainBytes.{plain_quoted}
 use Rattle.token_text.proofs.Places.{quoted_push, quoted_byte_ends}
@@ -8,9 +7,7 @@ use Rattle.token_text.proofs.tokens.read_quoted.Goals as goal
 pub loop-byte-preserved : goal.loop-byte-preserved
 loop-byte-preserved c =
     let byte = quoted_byte_from _ _ _ (sym c.in-Some.ensures) in
-    subst (λ bytes. QuotedBytes c.args.text.now bytes c.in-Some.after.now)
-    (sym c.in_ok-push.ensures.items)
-    (quoted_push _ _ _ _ _ c.loop-byte.invariant byte)
+    rw c.in_ok-push.ensures.items (quoted_push _ _ _ _ _ c.loop-byte.invariant byte)
 
 pub loop-byte-smaller : goal.loop-byte-smaller
 loop-byte-smaller c = (quoted_byte_ends _ _ _ (quoted_byte_from _ _ _ (sym c.in-Some.ensures))).1

@@ -3,7 +3,8 @@ use Rattle.token_text.specs.Grammar.{Reads}
 use Rattle.token_text.specs.Laws.{token, bad_backslash, open_quote}
 use Rattle.token_text.proofs.Places.{ends_on, ends_behind, ends_length, ends_tail, quoted_ends}
 use Rattle.token_text.proofs.Determined.{one_reading}
-use Rattle.token_text.proofs.Outcomes.{text_ends, inside_ends, reads_plain, reads_quoted, stays_open, goes_bad}
+use Rattle.token_text.proofs.Outcomes.{text_ends, inside_ends, reads_plain, reads_quoted}
+use Rattle.token_text.proofs.Outcomes.{stays_open, goes_bad}
 use Rattle.token_text.proofs.tokens.read_token.Goals as goal
 
 pub overflow_sub-start : goal.overflow_sub-start

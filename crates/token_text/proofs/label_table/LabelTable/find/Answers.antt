@@ -5,4 +5,5 @@ pub returns : goal.returns
 returns c =
     let labels = c.self.inside.labels.keys in
     let found = c.get_index_of.ensures in
-    rw (← c.self.view_is) (place_found c.args.label.now labels c.get_index_of.result found.index found.found)
+    let place = c.get_index_of.result in
+    rw (← c.self.view_is) (place_found c.args.label.now labels place found.index found.found)
