@@ -6,7 +6,7 @@ ghost use Rattle.view_tower.specs.Layers.{tower_of};
 
 use crate::layers::Layer;
 use std::alloc::{AllocError, Global};
-use token_text::Text;
+use token_text::{Text, copy_text};
 
 // Appends the marks of a node, those of the upper layers first.
 fn push_node_marks(out: &mut Vec<u8>, layers: &[Layer], node: u32) -> Result<(), AllocError>
@@ -60,12 +60,12 @@ fn push_arc_marks(out: &mut Vec<u8>, layers: &[Layer], arc: u32) -> Result<(), A
 }
 
 // The marks from the lowest layer up.
-fn from_lowest(marks: Vec<u8>) -> Text
-    ensures { result ≡ reverse marks.items }
+fn from_lowest(alloc: Global, marks: Vec<u8>) -> Result<Text, AllocError>
+    ensures { IfOk result (λ text. text ≡ reverse marks.items) }
 {
     let mut marks = marks;
     marks.reverse();
-    Text::from_vec(marks)
+    copy_text(alloc, marks.as_slice())
 }
 
 /// The marks of a node of the tower: `i` for an in-node and `o` for an out-node, a letter for each
@@ -75,7 +75,7 @@ pub fn node_marks(alloc: Global, layers: &[Layer], node: u32) -> Result<Text, Al
 {
     let mut out = Vec::new(alloc);
     push_node_marks(&mut out, layers, node)?;
-    Ok(from_lowest(out))
+    from_lowest(alloc, out)
 }
 
 /// The marks of an arc of the tower: `+` for an arc as it goes and `-` for one that is turned, a
@@ -86,5 +86,5 @@ pub fn arc_marks(alloc: Global, layers: &[Layer], arc: u32) -> Result<Text, Allo
 {
     let mut out = Vec::new(alloc);
     push_arc_marks(&mut out, layers, arc)?;
-    Ok(from_lowest(out))
+    from_lowest(alloc, out)
 }
