@@ -115,8 +115,8 @@ pub record AttributesSaid (lines : List Line) : Type 0 where
   pub right : AreAttributes attributes
   pub spells : AttributesSpell lines attributes
 
-pub attributes_said : (lines : List Line) (read : List Cells) → AllRead attribute_fault [] lines read
-    → AttributesSaid lines
+pub attributes_said : (lines : List Line) (read : List Cells)
+    → AllRead attribute_fault [] lines read → AttributesSaid lines
 attributes_said lines read all =
     let made = items_from attribute_cells AreAttributes attribute_fault [] next_attribute [] read
     refl all.fine in
