@@ -8,8 +8,6 @@ use Rattle.lgf_file.specs.Rows.{Cells}
 use Rattle.lgf_file.specs.Reading.{InOrder}
 use Rattle.lgf_file.specs.declared.faults.LgfKind.{LgfKind}
 
--- ---- rows of which none is at fault behind those before it
-
 module _ (fault : List Cells → Cells → Option LgfKind) where
   -- Rows that are made of items are in order, if none is at fault behind those of the items before
   -- it.

@@ -20,8 +20,6 @@ use Rattle.lgf_file.specs.declared.sections.LineKind.TheVariants.{Row}
 use Rattle.lgf_file.specs.declared.sections.Section.{Section}
 use Rattle.lgf_file.specs.declared.sections.Section.TheVariants.{Nodes, Arcs, Attributes}
 
--- ---- the text of a row has the tokens of the row, is a row, and has no line end
-
 -- ---- tokens
 
 -- A tab in front of a text changes none of its tokens.
@@ -155,8 +153,6 @@ attribute_inside attribute =
     let blank = inside_by_test (32 ∷ []) refl in
     let rest = inside_both (32 ∷ []) value blank (written_inside attribute.1) in
     inside_both (written attribute.0) (32 ∷ value) (written_inside attribute.0) rest
-
--- ---- the sections of written lines
 
 -- ---- lines
 

@@ -1,10 +1,5 @@
-use Rattle.std.proofs.Common.{sym, ap, ◌∙◌, subst}
-use Rattle.std.specs.Prelude.{option_map}
 use Rattle.std.proofs.lemmas.Bool.{lt-ltb}
 use Rattle.token_text.specs.Lines.{lines_of}
-use Rattle.lgf_file.specs.Results.{Refuses}
-use Rattle.lgf_file.specs.Found.{section_at}
-use Rattle.lgf_file.specs.declared.sections.Begun.{Begun}
 use Rattle.lgf_file.proofs.FirstFaults.{no_nodes, no_arcs, arcs_first}
 use Rattle.lgf_file.proofs.SectionsRead.{rows_found, refused, spelled, blamed, exact, exact_fault}
 use Rattle.lgf_file.proofs.reading.read_doc.Goals as goal
@@ -13,30 +8,26 @@ pub returns-in_default-clause-refused : goal.returns-in_default-clause-refused
 returns-in_default-clause-refused c =
     let bytes = c.args.bytes.now in
     let found = c.find_sections-sections.ensures in
-    let as_part = option_map (λ (b : Begun). section_at b.at b.rest.now) in
-    let nodes = found.nodes ∙ ap as_part c.in_default.is in
-    subst (Refuses bytes) (sym c.fault_at.ensures)
-    (refused bytes _ (no_nodes (lines_of bytes) _ nodes found.end))
+    let nodes = rw c.in_default.is at found.nodes in
+    rw c.fault_at.ensures (refused bytes _ (no_nodes (lines_of bytes) _ nodes found.end))
 
 pub returns-in_default-arcs-clause-refused : goal.returns-in_default-arcs-clause-refused
 returns-in_default-arcs-clause-refused c =
     let bytes = c.args.bytes.now in
     let found = c.find_sections-sections.ensures in
-    let as_part = option_map (λ (b : Begun). section_at b.at b.rest.now) in
-    let nodes = found.nodes ∙ ap as_part c.in-Some.is in
-    let arcs = found.arcs ∙ ap as_part c.in_default-arcs.is in
-    subst (Refuses bytes) (sym c.fault_at-in_default-arcs.ensures)
+    let nodes = rw c.in-Some.is at found.nodes in
+    let arcs = rw c.in_default-arcs.is at found.arcs in
+    rw c.fault_at-in_default-arcs.ensures
     (refused bytes _ (no_arcs (lines_of bytes) _ _ nodes arcs found.end))
 
 pub returns-then-arcs-nodes-clause-refused : goal.returns-then-arcs-nodes-clause-refused
 returns-then-arcs-nodes-clause-refused c =
     let bytes = c.args.bytes.now in
     let found = c.find_sections-sections.ensures in
-    let as_part = option_map (λ (b : Begun). section_at b.at b.rest.now) in
-    let nodes = found.nodes ∙ ap as_part c.in-Some.is in
-    let arcs = found.arcs ∙ ap as_part c.in-Some-arcs.is in
+    let nodes = rw c.in-Some.is at found.nodes in
+    let arcs = rw c.in-Some-arcs.is at found.arcs in
     let before = lt-ltb c.in-Some-arcs.arcs.at c.in-Some.nodes.at c.if-arcs-nodes.true in
-    subst (Refuses bytes) (sym c.fault_at-then-arcs-nodes.ensures)
+    rw c.fault_at-then-arcs-nodes.ensures
     (refused bytes _ (arcs_first (lines_of bytes) _ _ nodes arcs before))
 
 pub returns : goal.returns
@@ -44,9 +35,8 @@ returns c =
     let bytes = c.args.bytes.now in
     let result = c.read_parts.result in
     let found = c.find_sections-sections.ensures in
-    let as_part = option_map (λ (b : Begun). section_at b.at b.rest.now) in
-    let nodes = found.nodes ∙ ap as_part c.in-Some.is in
-    let arcs = found.arcs ∙ ap as_part c.in-Some-arcs.is in
+    let nodes = rw c.in-Some.is at found.nodes in
+    let arcs = rw c.in-Some-arcs.is at found.arcs in
     let attributes = rows_found c.find_sections-sections.result.attributes _ found.attributes in
     let right = spelled bytes _ _ _ nodes arcs attributes c.if-arcs-nodes.false result
     c.read_parts.ensures.spelled c.read_parts.ensures.valid in
