@@ -1,5 +1,6 @@
 -- No tokens are two forms.
-use Rattle.std.proofs.Common.{◌≡◌, ℕ, zero, suc, ◌<◌, Bool, true, false, not, ◌&&◌, inl, inr, List, [], ◌∷◌, length, get_or, refl, ap, sym, ◌∙◌, subst, arith}
+use Rattle.std.proofs.Common.{◌≡◌, ℕ, zero, suc, ◌<◌, Bool, true, false, not, ◌&&◌, inl, inr, List}
+use Rattle.std.proofs.Common.{[], ◌∷◌, length, get_or, refl, ap, sym, ◌∙◌, subst, arith}
 use Rattle.std.specs.List.{list_all}
 use Rattle.std.specs.Str.{bytes_eq}
 use Rattle.std.proofs.lemmas.Bool.{and_parts, cases_order}
@@ -56,11 +57,13 @@ apart [] = true
 apart (f ∷ fs) = list_all (λ g. clash (slots_of f) (slots_of g)) fs && apart fs
 
 -- What holds of all forms of a list holds of the one at this place.
-pub all_at : (p : Form → Bool) (fs : List Form) (k : ℕ) (d : Form) → k < length fs → list_all p fs ≡ true
+pub all_at : (p : Form → Bool) (fs : List Form) (k : ℕ) (d : Form) → k < length fs
+    → list_all p fs ≡ true
     → p (get_or fs k d) ≡ true
 all_at p [] k d h e = absurd (omega arith)
 all_at p (f ∷ fs) zero d h e = (and_parts (p f) (list_all p fs) e).0
-all_at p (f ∷ fs) (suc k) d h e = all_at p fs k d (omega arith) (and_parts (p f) (list_all p fs) e).1
+all_at p (f ∷ fs) (suc k) d h e =
+    all_at p fs k d (omega arith) (and_parts (p f) (list_all p fs) e).1
 
 -- Of forms that clash with each other any two do.
 pub apart_at : (fs : List Form) (i j : ℕ) (d : Form) → i < j → j < length fs → apart fs ≡ true

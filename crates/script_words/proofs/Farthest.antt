@@ -1,5 +1,6 @@
 -- The form that goes on farthest.
-use Rattle.std.proofs.Common.{◌≡◌, ℕ, ◌+◌, ◌<◌, ◌≤◌, true, List, length, take, get_or, refl, sym, subst, arith, below_more, nat_eq}
+use Rattle.std.proofs.Common.{◌≡◌, ℕ, ◌+◌, ◌<◌, ◌≤◌, true, List, length, take, get_or, refl, sym}
+use Rattle.std.proofs.Common.{subst, arith, below_more, nat_eq}
 use Rattle.std.proofs.lemmas.Bool.{and_parts, and_from, eqb-true}
 use Rattle.std.proofs.lemmas.List.{take_all}
 use Rattle.token_text.specs.declared.tokens.Token.{Token}
@@ -43,10 +44,12 @@ farthest_more tokens i most reached e f more = record {
   within = omega (arith, reach_within (slots_at i) tokens);
   reached = (
     form_at i,
-    subst (λ n. begins (slots_at i) (take n tokens) ≡ true) (sym e) (begins_reach (slots_at i) tokens),
+    subst (λ n. begins (slots_at i) (take n tokens) ≡ true) (sym e)
+        (begins_reach (slots_at i) tokens),
   );
   below = below_more (λ k. reach (slots_at k) tokens ≤ reached) i
-      (λ k h. let old : reach (slots_at k) tokens ≤ most = f.below k h in omega arith) (omega arith);
+      (λ k h. let old : reach (slots_at k) tokens ≤ most = f.below k h in omega arith)
+      (omega arith);
 }
 
 -- One more form goes on no farther.
@@ -77,12 +80,14 @@ pub matches_whole : (form : Form) (tokens : List Token) → is_whole (shape form
 matches_whole form tokens e =
     let slots = (shape form).slots in
     let parts =
-    and_parts (nat_eq (length slots) (length tokens)) (nat_eq (reach slots tokens) (length tokens)) e in
+    and_parts (nat_eq (length slots) (length tokens)) (nat_eq (reach slots tokens) (length tokens))
+    e in
     let wide : length slots ≡ length tokens = eqb-true _ _ parts.0 in
     let far : reach slots tokens ≡ length tokens = eqb-true _ _ parts.1 in
     let P : List Token → Type 0 = λ ts. begins slots ts ≡ true in
     record {
-      begins = subst P (take_all (reach slots tokens) tokens (omega arith)) (begins_reach slots tokens);
+      begins = subst P (take_all (reach slots tokens) tokens (omega arith))
+          (begins_reach slots tokens);
       whole = sym wide;
     }
 

@@ -1,5 +1,6 @@
 -- How far a form goes on, and whether it goes on with given tokens.
-use Rattle.std.proofs.Common.{◌≡◌, ℕ, zero, suc, ◌≤◌, Bool, true, false, List, [], ◌∷◌, length, take, refl, arith, add-one}
+use Rattle.std.proofs.Common.{◌≡◌, ℕ, zero, suc, ◌≤◌, Bool, true, false, List, [], ◌∷◌, length}
+use Rattle.std.proofs.Common.{take, refl, arith, add-one}
 use Rattle.std.proofs.lemmas.Bool.{and_parts}
 use Rattle.token_text.specs.declared.tokens.Token.{Token}
 use Rattle.script_words.specs.Slots.{Slot, fits, begins}
@@ -18,7 +19,8 @@ begins_reach (slot ∷ slots) [] = refl
 begins_reach (slot ∷ slots) (token ∷ tokens) =
     let rest = begins_reach slots tokens in
     let all = token ∷ tokens in
-    by_test (fits slot token.bytes) (begins (slot ∷ slots) (take (reach (slot ∷ slots) all) all) ≡ true)
+    by_test (fits slot token.bytes)
+    (begins (slot ∷ slots) (take (reach (slot ∷ slots) all) all) ≡ true)
     (λ e. rw (e, add-one, e) rest)
     (λ e. rw e refl)
 
@@ -40,6 +42,7 @@ reach_within [] tokens = omega arith
 reach_within (slot ∷ slots) [] = omega arith
 reach_within (slot ∷ slots) (token ∷ tokens) =
     let more : reach slots tokens ≤ length tokens = reach_within slots tokens in
-    by_test (fits slot token.bytes) (reach (slot ∷ slots) (token ∷ tokens) ≤ length (token ∷ tokens))
+    by_test (fits slot token.bytes)
+    (reach (slot ∷ slots) (token ∷ tokens) ≤ length (token ∷ tokens))
     (λ e. rw e (omega arith))
     (λ e. rw e (omega arith))

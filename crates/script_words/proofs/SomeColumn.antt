@@ -1,5 +1,6 @@
 -- A line that says no command goes wrong somewhere.
-use Rattle.std.proofs.Common.{◌≡◌, ℕ, zero, suc, ◌+◌, ◌<◌, false, Option, Some, None, inl, inr, List, [], ◌∷◌, length, get_or, refl, subst, arith}
+use Rattle.std.proofs.Common.{◌≡◌, ℕ, zero, suc, ◌+◌, ◌<◌, false, Option, Some, None, inl, inr}
+use Rattle.std.proofs.Common.{List, [], ◌∷◌, length, get_or, refl, subst, arith}
 use Rattle.std.proofs.lemmas.Bool.{cases_order}
 use Rattle.token_text.specs.declared.tokens.Token.{Token}
 use Rattle.token_text.specs.Lines.{is_passed_over}
@@ -9,7 +10,8 @@ use Rattle.script_words.specs.declared.commands.Command.{Command}
 use Rattle.script_words.specs.declared.forms.TheConstants.{FORMS}
 use Rattle.script_words.specs.Code.{reach}
 use Rattle.script_words.specs.Lines.{Says, GoesOn, IsBad, command_of}
-use Rattle.script_words.proofs.Farthest.{Farthest, slots_at, farthest_none, farthest_more, farthest_less, farthest_stuck}
+use Rattle.script_words.proofs.Farthest.{Farthest, slots_at, farthest_none, farthest_more}
+use Rattle.script_words.proofs.Farthest.{farthest_less, farthest_stuck}
 use Rattle.script_words.proofs.Verdicts.{all_goes, wrong_token, unread_token, missing_token}
 
 -- Of the first forms of the table one goes on farthest.

@@ -1,11 +1,13 @@
 -- The command of a form's words is valid.
-use Rattle.std.proofs.Common.{◌≡◌, ℕ, ◌<◌, ◌≤◌, Bool, true, false, not, ◌&&◌, List, length, get_or, nat_le, refl, sym, subst, arith, lit<}
+use Rattle.std.proofs.Common.{◌≡◌, ℕ, ◌<◌, ◌≤◌, Bool, true, false, not, ◌&&◌, List, length, get_or}
+use Rattle.std.proofs.Common.{nat_le, refl, sym, subst, arith, lit<}
 use Rattle.std.specs.List.{list_all}
 use Rattle.std.proofs.lemmas.Bool.{and_parts, leb-true}
 use Rattle.token_text.specs.declared.tokens.Token.{Token}
 use Rattle.script_words.specs.declared.forms.Form.{Form}
 use Rattle.script_words.specs.declared.forms.Form.TheVariants as form
-use Rattle.script_words.specs.Slots.{Slot, Name, Amount, fits, word_at, is_amount, is_dash, is_digit, map_of, number_of}
+use Rattle.script_words.specs.Slots.{Slot, Name, Amount, fits, word_at, is_amount, is_dash}
+use Rattle.script_words.specs.Slots.{is_digit, map_of, number_of}
 use Rattle.script_words.specs.Forms.{shape}
 use Rattle.script_words.specs.Lines.{Matches, command_of}
 use Rattle.script_words.specs.Valid.{IsOptional, IsValid}
@@ -40,14 +42,16 @@ within : (low high : ℕ) (bytes : List ℕ) → is_amount low high bytes ≡ tr
     → Within low high (number_of bytes)
 within low high bytes e =
     let front = nat_le 1 (length bytes) && nat_le (length bytes) 7 && list_all is_digit bytes in
-    let upper = and_parts (front && nat_le low (number_of bytes)) (nat_le (number_of bytes) high) e in
+    let upper = and_parts (front && nat_le low (number_of bytes)) (nat_le (number_of bytes) high)
+    e in
     let lower = and_parts front (nat_le low (number_of bytes)) upper.0 in
     record { above = leb-true _ _ lower.1; below = leb-true _ _ upper.1 }
 
 -- The number at the fifth place of a form lies in its range.
 ranged : (known : Form) (tokens : List Token) (low high : ℕ)
     → Matches known tokens → length (shape known).slots ≡ 5
-    → get_or (shape known).slots 4 Name ≡ Amount low high → Within low high (number_of (word_at tokens 4))
+    → get_or (shape known).slots 4 Name ≡ Amount low high
+    → Within low high (number_of (word_at tokens 4))
 ranged known tokens low high matches five last =
     let P : Slot → Type 0 = λ slot. fits slot (word_at tokens 4) ≡ true in
     within low high (word_at tokens 4) (subst P last (fit known tokens 4 matches (omega arith)))
@@ -62,7 +66,8 @@ valid_form form.Trues tokens matches = not_true _ (fit form.Trues tokens 2 match
 valid_form form.NodeQuota tokens matches =
     (ranged form.NodeQuota tokens 0 4194304 matches refl refl).below
 valid_form form.NodeFuse tokens matches =
-    let range = ranged form.NodeFuse tokens 1 4194304 matches refl refl in (range.above, range.below)
+    let range = ranged form.NodeFuse tokens 1 4194304 matches refl refl in
+    (range.above, range.below)
 valid_form form.ArcQuota tokens matches =
     (ranged form.ArcQuota tokens 0 4194304 matches refl refl).below
 valid_form form.ArcOutCap tokens matches =

@@ -1,5 +1,7 @@
 -- What a line's tokens say of the line.
-use Rattle.std.proofs.Common.{◌≡◌, ℕ, zero, suc, ◌+◌, ◌<◌, ◌≤◌, false, Option, Some, None, inl, inr, List, [], ◌∷◌, ◌++◌, length, take, drop, get_or, refl, ap, sym, ◌∙◌, subst, arith, add-one}
+use Rattle.std.proofs.Common.{◌≡◌, ℕ, zero, suc, ◌+◌, ◌<◌, ◌≤◌, false, Option, Some, None, inl, inr}
+use Rattle.std.proofs.Common.{List, [], ◌∷◌, ◌++◌, length, take, drop, get_or, refl, ap, sym, ◌∙◌}
+use Rattle.std.proofs.Common.{subst, arith, add-one}
 use Rattle.std.proofs.lemmas.List.{take_all}
 use Rattle.token_text.specs.declared.tokens.Token.{Token}
 use Rattle.token_text.specs.Lines.{is_passed_over}
@@ -14,7 +16,8 @@ use Rattle.script_words.proofs.Apart.{matches_alone}
 use Rattle.script_words.proofs.WrongAlone.{take_goes, place_alone}
 
 -- Where a front has all the tokens, they go on with it.
-pub all_goes : (tokens : List Token) (n : ℕ) → length tokens ≤ n → GoesOn (take n tokens) → GoesOn tokens
+pub all_goes : (tokens : List Token) (n : ℕ) → length tokens ≤ n → GoesOn (take n tokens)
+    → GoesOn tokens
 all_goes tokens n h goes = subst (λ own. GoesOn own) (take_all n tokens h) goes
 
 -- The tokens are those before a place, the one at the place and those behind it.
@@ -32,7 +35,8 @@ one_more (t ∷ ts) zero d h = refl
 one_more (t ∷ ts) (suc n) d h = ap (λ rest. t ∷ rest) (one_more ts n d (omega arith))
 
 -- The tokens of a line that says a command match its form, and no fault stands behind them.
-said_whole : (line : List ℕ) (tokens : List Token) (fault : Option ℕ) → HasTokens line 0 tokens fault
+said_whole : (line : List ℕ) (tokens : List Token) (fault : Option ℕ)
+    → HasTokens line 0 tokens fault
     → (command : Command) (says : Says line command) → Matches says.form tokens × (fault ≡ None)
 said_whole line tokens fault reads command says =
     let same = tokens_alone line 0 says.tokens tokens None fault says.tokens_are reads in
@@ -52,7 +56,8 @@ module _ (line : List ℕ) (tokens : List Token) (read : is_passed_over line ≡
       let is_wrong : IsWrong tokens wrong = record {
         front = front;
         rest = rest;
-        parts = subst (λ (own : Token). tokens ≡ front ++ own ∷ rest) (sym w) (parted tokens n wrong h);
+        parts = subst (λ (own : Token). tokens ≡ front ++ own ∷ rest) (sym w)
+            (parted tokens n wrong h);
         before = goes;
         here = λ on. stuck (subst (λ own. GoesOn own) more on);
       } in
@@ -75,7 +80,8 @@ module _ (line : List ℕ) (tokens : List Token) (read : is_passed_over line ≡
   unread_token place reads goes = record {
     read = read;
     unsaid = λ command says.
-        let fault : Some place ≡ None = (said_whole line tokens (Some place) reads command says).1 in cc;
+        let fault : Some place ≡ None =
+        (said_whole line tokens (Some place) reads command says).1 in cc;
     tokens = tokens;
     fault = Some place;
     tokens_are = reads;
@@ -105,10 +111,12 @@ says_valid tokens form command matches is =
     subst (λ own. IsValid own) (sym is) (valid_form form tokens matches)
 
 -- A line says one command at most.
-pub one_command : (line : List ℕ) (one other : Command) → Says line one → Says line other → one ≡ other
+pub one_command : (line : List ℕ) (one other : Command) → Says line one → Says line other
+    → one ≡ other
 one_command line one other says says' =
     let whole = said_whole line says'.tokens None says'.tokens_are one says in
-    let same = tokens_alone line 0 says.tokens says'.tokens None None says.tokens_are says'.tokens_are in
+    let same = tokens_alone line 0 says.tokens says'.tokens None None says.tokens_are
+    says'.tokens_are in
     let form = matches_alone says.form says'.form says'.tokens whole.0 says'.matches in
     says.command_is ∙ (λ i. command_of (form i) (same.tokens i)) ∙ sym says'.command_is
 
@@ -116,7 +124,8 @@ one_command line one other says says' =
 pub one_column : (line : List ℕ) (one other : ℕ) → IsBad line one → IsBad line other → one ≡ other
 one_column line one other bad bad' =
     let same =
-    tokens_alone line 0 bad.tokens bad'.tokens bad.fault bad'.fault bad.tokens_are bad'.tokens_are in
+    tokens_alone line 0 bad.tokens bad'.tokens bad.fault bad'.fault bad.tokens_are
+    bad'.tokens_are in
     let here : IsBadPlace line bad'.tokens bad'.fault bad.place =
     subst (λ own. IsBadPlace line bad'.tokens own bad.place) same.fault
     (subst (λ own. IsBadPlace line own bad.fault bad.place) same.tokens bad.place_is) in

@@ -1,5 +1,6 @@
 -- The first token with which no form goes on is one alone.
-use Rattle.std.proofs.Common.{◌≡◌, ℕ, true, false, Option, inl, inr, List, [], ◌∷◌, ◌++◌, take, drop, refl, sym, ◌∙◌, subst, append_assoc}
+use Rattle.std.proofs.Common.{◌≡◌, ℕ, true, false, Option, inl, inr, List, [], ◌∷◌, ◌++◌, take}
+use Rattle.std.proofs.Common.{drop, refl, sym, ◌∙◌, subst, append_assoc}
 use Rattle.std.proofs.lemmas.Bool.{and_parts, and_from}
 use Rattle.std.proofs.lemmas.List.{take-append-drop}
 use Rattle.token_text.specs.declared.tokens.Token.{Token}
@@ -37,7 +38,8 @@ split_alone P shorter [] (first ∷ other) rest other_rest one two same has lack
 split_alone P shorter (first ∷ front) [] rest other_rest one two same has lacks has' lacks' =
     let heads : first ≡ two = cc in
     absurd (lacks' (subst (λ token. P (token ∷ [])) heads (shorter (first ∷ []) front has)))
-split_alone P shorter (first ∷ front) (head ∷ other) rest other_rest one two same has lacks has' lacks' =
+split_alone P shorter (first ∷ front) (head ∷ other) rest other_rest one two same has lacks has'
+    lacks' =
     let heads : head ≡ first = cc in
     let tails : front ++ one ∷ rest ≡ other ++ two ∷ other_rest = cc in
     split_alone (λ own. P (first ∷ own)) (λ own more. shorter (first ∷ own) more) front other

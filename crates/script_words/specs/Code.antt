@@ -3,7 +3,8 @@ use Rattle.std.specs.Prelude.{ℕ, ◌+◌, ◌&&◌, Bool, nat_eq, cond, List, 
 use Rattle.token_text.specs.declared.tokens.Token.{Token}
 use Rattle.script_words.specs.declared.forms.Place.{Place}
 use Rattle.script_words.specs.declared.forms.Place.TheVariants as place
-use Rattle.script_words.specs.Slots.{Slot, Word, Name, NewMap, MapOrDash, Sort, TypeName, InOrOut, Amount, fits}
+use Rattle.script_words.specs.Slots.{Slot, Word, Name, NewMap, MapOrDash, Sort, TypeName, InOrOut}
+use Rattle.script_words.specs.Slots.{Amount, fits}
 
 -- What may stand at a place of the code's table.
 abbrev pub slot_of : Place → Slot

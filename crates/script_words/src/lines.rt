@@ -1,6 +1,7 @@
 //! How a line is read.
 
-ghost use Rattle.std.specs.Prelude.{◌≡◌, ℕ, ◌+◌, ◌<◌, ◌≤◌, length, take, true, Ok, None, IfOk, IfErr, IfSome, IfNone};
+ghost use Rattle.std.specs.Prelude.{◌≡◌, ℕ, ◌+◌, ◌<◌, ◌≤◌, length, take, true, Ok, None, IfOk};
+ghost use Rattle.std.specs.Prelude.{IfErr, IfSome, IfNone};
 ghost use Rattle.token_text.specs.Lines.{is_passed_over};
 ghost use Rattle.script_words.specs.Lines.{Matches, GoesOn, Says, IsBad};
 ghost use Rattle.script_words.specs.Code as code;

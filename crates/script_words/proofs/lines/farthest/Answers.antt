@@ -1,6 +1,7 @@
 use Rattle.std.proofs.Common.{◌+◌, ◌∙◌, ap, subst, sym, arith}
 use Rattle.script_words.specs.Code.{reach}
-use Rattle.script_words.proofs.Farthest.{Farthest, farthest_none, farthest_more, farthest_less, farthest_stuck}
+use Rattle.script_words.proofs.Farthest.{Farthest, farthest_none, farthest_more, farthest_less}
+use Rattle.script_words.proofs.Farthest.{farthest_stuck}
 use Rattle.script_words.proofs.lines.farthest.Goals as goal
 use Rattle.script_words.proofs.lines.farthest.Goals.{then-reached-most, else-reached-most}
 
@@ -18,7 +19,8 @@ loop-form-preserved c =
           (farthest_more tokens i c.loop-form.most _ e c.loop-form.invariant w.if-reached-most.true)
       | else-reached-most w ↦
           subst (Farthest tokens (i + 1)) (sym w.most-is)
-          (farthest_less tokens i c.loop-form.most _ e c.loop-form.invariant w.if-reached-most.false)
+          (farthest_less tokens i c.loop-form.most _ e c.loop-form.invariant
+          w.if-reached-most.false)
     ]
 
 pub returns-clause-stuck : goal.returns-clause-stuck

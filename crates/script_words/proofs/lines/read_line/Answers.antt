@@ -2,14 +2,16 @@ use Rattle.std.proofs.Common.{◌≡◌, ℕ, ◌+◌, Option, List, refl, sym, 
 use Rattle.token_text.specs.declared.tokens.Token.{Token}
 use Rattle.token_text.specs.LineTokens.{HasTokens}
 use Rattle.script_words.specs.Lines.{IsBad}
-use Rattle.script_words.proofs.Verdicts.{all_goes, says_valid, wrong_token, unread_token, missing_token, one_command, one_column}
+use Rattle.script_words.proofs.Verdicts.{all_goes, says_valid, wrong_token, unread_token}
+use Rattle.script_words.proofs.Verdicts.{missing_token, one_command, one_column}
 use Rattle.script_words.proofs.lines.read_line.Goals as goal
 
 -- The line has the tokens and the fault that the code goes on with.
 tokens_of : (line : List ℕ) (items tokens : List Token) (fault known : Option ℕ)
     → HasTokens line 0 items fault → tokens ≡ items → fault ≡ known → HasTokens line 0 tokens known
 tokens_of line items tokens fault known has same fault_is =
-    subst (HasTokens line 0 tokens) fault_is (subst (λ own. HasTokens line 0 own fault) (sym same) has)
+    subst (HasTokens line 0 tokens) fault_is
+    (subst (λ own. HasTokens line 0 own fault) (sym same) has)
 
 pub returns-then-reached-tokens-clause-refused : goal.returns-then-reached-tokens-clause-refused
 returns-then-reached-tokens-clause-refused c =
@@ -21,7 +23,8 @@ returns-then-reached-tokens-clause-refused c =
     let more = c.if-reached-tokens.true in
     subst (λ (token : Token). IsBad line (token.start + 1)) c.index-tokens-reached.is
     (wrong_token line tokens read _ c.farthest-reached.result c.index-tokens-reached.result has more
-    c.index-tokens-reached.is c.farthest-reached.ensures.reached (c.farthest-reached.ensures.stuck more))
+    c.index-tokens-reached.is c.farthest-reached.ensures.reached
+    (c.farthest-reached.ensures.stuck more))
 
 pub returns-then-reached-tokens-clause-exact : goal.returns-then-reached-tokens-clause-exact
 returns-then-reached-tokens-clause-exact c = (returns-then-reached-tokens-clause-refused c).unsaid
@@ -60,7 +63,8 @@ returns-in_default-whole_form-clause-refused c =
     missing_token line tokens read has goes c.in_default-whole_form.ensures.none
 
 pub returns-in_default-whole_form-clause-exact : goal.returns-in_default-whole_form-clause-exact
-returns-in_default-whole_form-clause-exact c = (returns-in_default-whole_form-clause-refused c).unsaid
+returns-in_default-whole_form-clause-exact c =
+    (returns-in_default-whole_form-clause-refused c).unsaid
 
 pub returns-in_default-whole_form-clause-exact_column :
     goal.returns-in_default-whole_form-clause-exact_column
