@@ -9,7 +9,10 @@ use Rattle.report_text.specs.declared.faults.Fault.{Fault}
 use Rattle.report_text.specs.declared.faults.Fault.TheVariants as fault
 use Rattle.report_text.specs.declared.replies.Reply.{Reply}
 use Rattle.report_text.specs.declared.replies.Reply.TheVariants as reply
-use Rattle.report_text.specs.Lines.{line_text, lines_text, name_words, number_words, signed_words, node_words, arc_words, flow_words, potential_words, mean_words, pair_words, guard_words, snap_words, least_words, side_word, path_text, is_reached}
+use Rattle.report_text.specs.Lines.{line_text, lines_text, name_words, number_words, signed_words}
+use Rattle.report_text.specs.Lines.{node_words, arc_words, flow_words, potential_words, mean_words}
+use Rattle.report_text.specs.Lines.{pair_words, guard_words, snap_words, least_words, side_word}
+use Rattle.report_text.specs.Lines.{path_text, is_reached}
 
 -- What the items of a sort are called.
 abbrev pub sort_name : ItemSort → List ℕ
