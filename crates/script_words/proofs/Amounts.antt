@@ -1,6 +1,6 @@
 -- What is known of the word at a place of a form.
 use Rattle.std.proofs.Common.{◌≡◌, ℕ, zero, suc, ◌<◌, true, false, Some, List, [], ◌∷◌, length}
-use Rattle.std.proofs.Common.{get_or, ap, sym, subst, arith}
+use Rattle.std.proofs.Common.{get_or, ap, arith}
 use Rattle.std.proofs.lemmas.Bool.{and_parts}
 use Rattle.token_text.specs.declared.tokens.Token.{Token}
 use Rattle.base_items.specs.declared.items.ItemSort.{ItemSort}
@@ -39,13 +39,10 @@ pub guard_said : (form known : Form) (words : List Token) (low high : ℕ) (sort
     → said ≡ command_of form words
 guard_said form known words low high sort kind name number said is matches five last says name_is
     number_is given =
-    let P : Form → Type 0 = λ form. Matches form words in
-    let there = subst P is matches in
+    let there = rw is at matches in
     let whole : length words ≡ length (shape known).slots = there.whole in
     let fit = fits_at (shape known).slots words 4 there.begins (omega arith) in
-    let Q : Slot → Type 0 = λ slot. fits slot (word_at words 4) ≡ true in
-    let amount : is_amount low high (word_at words 4) ≡ true = subst Q last fit in
-    let R : List ℕ → Type 0 = λ word. is_amount low high word ≡ true in
-    let given_says = given low high (subst R (sym number_is) amount) in
+    let amount : is_amount low high (word_at words 4) ≡ true = rw last at fit in
+    let given_says = given low high (rw number_is amount) in
     let same = ap (λ form. command_of form words) is in
     cc

@@ -84,10 +84,9 @@ matches_whole form tokens e =
     e in
     let wide : length slots ≡ length tokens = eqb-true _ _ parts.0 in
     let far : reach slots tokens ≡ length tokens = eqb-true _ _ parts.1 in
-    let P : List Token → Type 0 = λ ts. begins slots ts ≡ true in
     record {
-      begins = subst P (take_all (reach slots tokens) tokens (omega arith))
-          (begins_reach slots tokens);
+      begins =
+          rw (take_all (reach slots tokens) tokens (omega arith)) at (begins_reach slots tokens);
       whole = sym wide;
     }
 
@@ -100,11 +99,10 @@ pub whole_matches : (form : Form) (tokens : List Token) → Matches form tokens
     → is_whole (shape form).slots tokens ≡ true
 whole_matches form tokens m =
     let slots = (shape form).slots in
-    let P : List Token → Type 0 = λ ts. begins slots ts ≡ true in
     let wide : length tokens ≡ length slots = m.whole in
     let most : reach slots tokens ≤ length tokens = reach_within slots tokens in
-    let all : P (take (length tokens) tokens) =
-    subst P (sym (take_all (length tokens) tokens (omega arith))) m.begins in
+    let all : begins slots (take (length tokens) tokens) ≡ true =
+    rw (take_all (length tokens) tokens (omega arith)) m.begins in
     let far : length tokens ≤ reach slots tokens =
     reach_begins slots tokens (length tokens) (omega arith) all in
     let same : reach slots tokens ≡ length tokens = omega arith in

@@ -1,12 +1,12 @@
 -- The command of a form's words is valid.
 use Rattle.std.proofs.Common.{◌≡◌, ℕ, ◌<◌, ◌≤◌, Bool, true, false, not, ◌&&◌, List, length, get_or}
-use Rattle.std.proofs.Common.{nat_le, refl, sym, subst, arith, lit<}
+use Rattle.std.proofs.Common.{nat_le, refl, sym, arith, lit<}
 use Rattle.std.specs.List.{list_all}
 use Rattle.std.proofs.lemmas.Bool.{and_parts, leb-true}
 use Rattle.token_text.specs.declared.tokens.Token.{Token}
 use Rattle.script_words.specs.declared.forms.Form.{Form}
 use Rattle.script_words.specs.declared.forms.Form.TheVariants as form
-use Rattle.script_words.specs.Slots.{Slot, Name, Amount, fits, word_at, is_amount, is_dash}
+use Rattle.script_words.specs.Slots.{Name, Amount, fits, word_at, is_amount, is_dash}
 use Rattle.script_words.specs.Slots.{is_digit, map_of, number_of}
 use Rattle.script_words.specs.Forms.{shape}
 use Rattle.script_words.specs.Lines.{Matches, command_of}
@@ -53,8 +53,7 @@ ranged : (known : Form) (tokens : List Token) (low high : ℕ)
     → get_or (shape known).slots 4 Name ≡ Amount low high
     → Within low high (number_of (word_at tokens 4))
 ranged known tokens low high matches five last =
-    let P : Slot → Type 0 = λ slot. fits slot (word_at tokens 4) ≡ true in
-    within low high (word_at tokens 4) (subst P last (fit known tokens 4 matches (omega arith)))
+    within low high (word_at tokens 4) (rw last at (fit known tokens 4 matches (omega arith)))
 
 -- The command of the words that match a form is valid.
 pub valid_form : (known : Form) (tokens : List Token) → Matches known tokens

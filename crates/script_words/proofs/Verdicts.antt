@@ -18,7 +18,7 @@ use Rattle.script_words.proofs.WrongAlone.{take_goes, place_alone}
 -- Where a front has all the tokens, they go on with it.
 pub all_goes : (tokens : List Token) (n : ℕ) → length tokens ≤ n → GoesOn (take n tokens)
     → GoesOn tokens
-all_goes tokens n h goes = subst (λ own. GoesOn own) (take_all n tokens h) goes
+all_goes tokens n h goes = rw (take_all n tokens h) at goes
 
 -- The tokens are those before a place, the one at the place and those behind it.
 pub parted : (tokens : List Token) (n : ℕ) (d : Token) → n < length tokens
@@ -40,7 +40,7 @@ said_whole : (line : List ℕ) (tokens : List Token) (fault : Option ℕ)
     → (command : Command) (says : Says line command) → Matches says.form tokens × (fault ≡ None)
 said_whole line tokens fault reads command says =
     let same = tokens_alone line 0 says.tokens tokens None fault says.tokens_are reads in
-    (subst (λ own. Matches says.form own) same.tokens says.matches, sym same.fault)
+    (rw same.tokens at says.matches, sym same.fault)
 
 module _ (line : List ℕ) (tokens : List Token) (read : is_passed_over line ≡ false) where
   -- A line goes wrong at the first token with which no form goes on.
@@ -56,10 +56,9 @@ module _ (line : List ℕ) (tokens : List Token) (read : is_passed_over line ≡
       let is_wrong : IsWrong tokens wrong = record {
         front = front;
         rest = rest;
-        parts = subst (λ (own : Token). tokens ≡ front ++ own ∷ rest) (sym w)
-            (parted tokens n wrong h);
+        parts = rw w (parted tokens n wrong h);
         before = goes;
-        here = λ on. stuck (subst (λ own. GoesOn own) more on);
+        here = λ on. stuck (rw more at on);
       } in
       record {
         read = read;
@@ -108,7 +107,7 @@ module _ (line : List ℕ) (tokens : List Token) (read : is_passed_over line ≡
 pub says_valid : (tokens : List Token) (form : Form) (command : Command) → Matches form tokens
     → command ≡ command_of form tokens → IsValid command
 says_valid tokens form command matches is =
-    subst (λ own. IsValid own) (sym is) (valid_form form tokens matches)
+    rw is (valid_form form tokens matches)
 
 -- A line says one command at most.
 pub one_command : (line : List ℕ) (one other : Command) → Says line one → Says line other
@@ -127,7 +126,6 @@ one_column line one other bad bad' =
     tokens_alone line 0 bad.tokens bad'.tokens bad.fault bad'.fault bad.tokens_are
     bad'.tokens_are in
     let here : IsBadPlace line bad'.tokens bad'.fault bad.place =
-    subst (λ own. IsBadPlace line bad'.tokens own bad.place) same.fault
-    (subst (λ own. IsBadPlace line own bad.fault bad.place) same.tokens bad.place_is) in
+    rw (same.fault, same.tokens) at bad.place_is in
     let places = place_alone line bad'.tokens bad'.fault bad.place bad'.place here bad'.place_is in
     bad.column_is ∙ ap (λ place. place + 1) places ∙ sym bad'.column_is

@@ -1,6 +1,6 @@
 -- The first token with which no form goes on is one alone.
 use Rattle.std.proofs.Common.{◌≡◌, ℕ, true, false, Option, inl, inr, List, [], ◌∷◌, ◌++◌, take}
-use Rattle.std.proofs.Common.{drop, refl, sym, ◌∙◌, subst, append_assoc}
+use Rattle.std.proofs.Common.{drop, refl, sym, ◌∙◌, append_assoc}
 use Rattle.std.proofs.lemmas.Bool.{and_parts, and_from}
 use Rattle.std.proofs.lemmas.List.{take-append-drop}
 use Rattle.token_text.specs.declared.tokens.Token.{Token}
@@ -34,17 +34,17 @@ split_alone : (P : List Token → Type 0) → ((front more : List Token) → P (
 split_alone P shorter [] [] rest other_rest one two same has lacks has' lacks' = cc
 split_alone P shorter [] (first ∷ other) rest other_rest one two same has lacks has' lacks' =
     let heads : first ≡ one = cc in
-    absurd (lacks (subst (λ token. P (token ∷ [])) heads (shorter (first ∷ []) other has')))
+    absurd (lacks (rw heads at (shorter (first ∷ []) other has')))
 split_alone P shorter (first ∷ front) [] rest other_rest one two same has lacks has' lacks' =
     let heads : first ≡ two = cc in
-    absurd (lacks' (subst (λ token. P (token ∷ [])) heads (shorter (first ∷ []) front has)))
+    absurd (lacks' (rw heads at (shorter (first ∷ []) front has)))
 split_alone P shorter (first ∷ front) (head ∷ other) rest other_rest one two same has lacks has'
     lacks' =
     let heads : head ≡ first = cc in
     let tails : front ++ one ∷ rest ≡ other ++ two ∷ other_rest = cc in
     split_alone (λ own. P (first ∷ own)) (λ own more. shorter (first ∷ own) more) front other
-    rest other_rest one two tails has lacks (subst (λ token. P (token ∷ other)) heads has')
-    (λ on. lacks' (subst (λ token. P (token ∷ (other ++ two ∷ []))) (sym heads) on))
+    rest other_rest one two tails has lacks (rw heads at has')
+    (λ on. lacks' (rw heads on))
 
 -- One token at most is the first with which no form goes on.
 wrong_alone : (tokens : List Token) (one other : Token) → IsWrong tokens one → IsWrong tokens other
@@ -57,7 +57,7 @@ wrong_alone tokens one other wrong wrong' =
 wrong_stuck : (tokens : List Token) (wrong : Token) → IsWrong tokens wrong → GoesOn tokens → ⊥
 wrong_stuck tokens wrong is goes =
     let parts = is.parts ∙ sym (append_assoc is.front (wrong ∷ []) is.rest) in
-    is.here (front_goes (is.front ++ wrong ∷ []) is.rest (subst GoesOn parts goes))
+    is.here (front_goes (is.front ++ wrong ∷ []) is.rest (rw parts at goes))
 
 -- A line with these tokens and this fault goes wrong at one place at most.
 pub place_alone : (line : List ℕ) (tokens : List Token) (fault : Option ℕ) (one other : ℕ)

@@ -1,6 +1,6 @@
-use Rattle.std.proofs.Common.{◌+◌, ◌∙◌, ap, subst, sym, arith}
+use Rattle.std.proofs.Common.{◌∙◌, ap, arith}
 use Rattle.script_words.specs.Code.{reach}
-use Rattle.script_words.proofs.Farthest.{Farthest, farthest_none, farthest_more, farthest_less}
+use Rattle.script_words.proofs.Farthest.{farthest_none, farthest_more, farthest_less}
 use Rattle.script_words.proofs.Farthest.{farthest_stuck}
 use Rattle.script_words.proofs.lines.farthest.Goals as goal
 use Rattle.script_words.proofs.lines.farthest.Goals.{then-reached-most, else-reached-most}
@@ -15,10 +15,10 @@ loop-form-preserved c =
     let e = c.reach-reached.ensures.reach ∙ ap (λ slots. reach slots tokens) c.places.ensures in
     elim c.if-reached-most.branch [
       | then-reached-most w ↦
-          subst (Farthest tokens (i + 1)) (sym w.most-is)
+          rw w.most-is
           (farthest_more tokens i c.loop-form.most _ e c.loop-form.invariant w.if-reached-most.true)
       | else-reached-most w ↦
-          subst (Farthest tokens (i + 1)) (sym w.most-is)
+          rw w.most-is
           (farthest_less tokens i c.loop-form.most _ e c.loop-form.invariant
           w.if-reached-most.false)
     ]

@@ -10,8 +10,7 @@ use Rattle.script_words.proofs.lines.read_line.Goals as goal
 tokens_of : (line : List ℕ) (items tokens : List Token) (fault known : Option ℕ)
     → HasTokens line 0 items fault → tokens ≡ items → fault ≡ known → HasTokens line 0 tokens known
 tokens_of line items tokens fault known has same fault_is =
-    subst (HasTokens line 0 tokens) fault_is
-    (subst (λ own. HasTokens line 0 own fault) (sym same) has)
+    rw (same, sym fault_is) has
 
 pub returns-then-reached-tokens-clause-refused : goal.returns-then-reached-tokens-clause-refused
 returns-then-reached-tokens-clause-refused c =
