@@ -34,6 +34,16 @@ pub trait HoldsHalf: Observer {
         ensures none { IfNone result (IsHalf (half_of (Self.watch self.now).seen) → ⊥) };
 }
 
+impl HoldsHalf for Half {
+    fn from_half(half: Half) -> Half {
+        half
+    }
+
+    fn half(&self) -> Option<&Half> {
+        Some(self)
+    }
+}
+
 /// Whether the half at a key is valid.
 fn half_valid<O: HoldsHalf>(chain: &Chain<O>, key: SeatKey) -> bool
     ensures { result ≡ saved.is_valid (held_at key.0 (seats O.watch chain.now)) }
