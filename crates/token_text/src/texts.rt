@@ -8,7 +8,7 @@ use std::marker::Model;
 
 /// A text. It is compared, ordered and hashed by its bytes. Up to 22 bytes stand in the value
 /// itself, and more in an allocation.
-#[derive(Debug, Drop)]
+#[derive(Debug)]
 pub struct Text {
     kept: Kept,
 }
@@ -58,6 +58,14 @@ impl Text {
         ensures { result ≡ (length self.now == 0) }
     {
         self.len() == 0
+    }
+}
+
+// One step wherever a text goes out of scope, and not one for each way to keep it.
+impl Drop for Text {
+    fn drop(self) {
+        let Text { kept } = self;
+        drop(kept);
     }
 }
 
