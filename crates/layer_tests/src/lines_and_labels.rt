@@ -1,7 +1,12 @@
 //! Lines of a file, parts of a line, and tables of labels.
 
+use std::alloc::{AllocError, Global};
 use std::test::Fail;
-use token_text::{LabelTable, after_blanks, copy_text, next_line, split_once, split_word};
+use token_text::{LabelTable, Text, after_blanks, copy_text, next_line, split_once, split_word};
+
+// The hasher of the tables multiplies the first eight bytes of a whole slice of 16 by the last eight
+// xor this factor: with these last every product is 0, whatever stands first.
+const FACTOR: u64 = 0x9e37_79b9_7f4a_7c15;
 
 #[test]
 fn splits_lines(rt: HostRuntime) {
@@ -39,5 +44,45 @@ fn keeps_labels(rt: HostRuntime) -> Result<(), Fail> {
     assert_eq!(rt; table.label(0).as_bytes(), b"a".as_slice());
     table.remove_last();
     assert_eq!(rt; table.len(), 1);
+    Ok(())
+}
+
+// A label of 16 bytes, the last eight those of the factor.
+fn chosen_label(alloc: Global, number: u64) -> Result<Text, AllocError> {
+    let mut bytes = [0; 16];
+    bytes[..8].copy_from_slice(&number.to_le_bytes());
+    bytes[8..].copy_from_slice(&FACTOR.to_le_bytes());
+    copy_text(alloc, &bytes)
+}
+
+// With one hash for all of these labels the look-ups would compare billions of pairs, and not end
+// in the time of a test.
+#[test]
+fn finds_chosen_labels_fast(rt: HostRuntime) -> Result<(), Fail> {
+    let mut table = LabelTable::new(rt.alloc());
+    for number in 0..80_000 {
+        assert!(rt; table.insert(chosen_label(rt.alloc(), number)?)?);
+    }
+    for number in 0..80_000 {
+        let place = table.find(&chosen_label(rt.alloc(), number)?);
+        assert_eq!(rt; place, Some(number as usize));
+    }
+    for number in 80_000..240_000 {
+        assert_eq!(rt; table.find(&chosen_label(rt.alloc(), number)?), None);
+    }
+    Ok(())
+}
+
+// A text of at most 22 bytes stands in its value, and a longer one doesn't.
+#[test]
+fn copies_texts_of_each_length(rt: HostRuntime) -> Result<(), Fail> {
+    let bytes = [b'x'; 40];
+    for count in 0..41 {
+        let text = copy_text(rt.alloc(), &bytes[..count])?;
+        let copy = text.clone()?;
+        assert_eq!(rt; copy.as_bytes(), &bytes[..count]);
+        assert!(rt; copy == text);
+        assert_eq!(rt; copy.len(), count);
+    }
     Ok(())
 }
