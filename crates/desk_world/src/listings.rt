@@ -11,7 +11,7 @@ use base_items::{ItemSort, List};
 use list_digraph::ListDigraph;
 use report_text::{ArcLine, NodeLine};
 use std::alloc::{AllocError, Global};
-use token_text::{LabelTable, Text, copy_text};
+use token_text::{LabelTable, Text};
 
 /// The nodes, the newest first, each with its label.
 pub fn list_nodes(
@@ -24,9 +24,9 @@ pub fn list_nodes(
 {
     let count = graph.count(ItemSort::Node);
     let nodes = node_order(alloc, graph)?;
-    let mut lines = Vec::new(alloc);
+    let mut lines = Vec::with_capacity(alloc, nodes.len())?;
     for id in nodes.as_slice() {
-        let name = copy_label(alloc, labels, *id)?;
+        let name = copy_label(labels, *id)?;
         lines.push(NodeLine { id: *id, name })?;
     }
     Ok(List::from_vec(lines))
@@ -47,16 +47,15 @@ pub fn list_arcs(
 {
     let count = graph.count(ItemSort::Arc);
     let arcs = arc_order(alloc, graph)?;
-    let mut lines = Vec::new(alloc);
+    let mut lines = Vec::with_capacity(alloc, arcs.len())?;
     for id in arcs.as_slice() {
-        lines.push(told_arc(alloc, *id, graph, node_labels, arc_labels)?)?;
+        lines.push(told_arc(*id, graph, node_labels, arc_labels)?)?;
     }
     Ok(List::from_vec(lines))
 }
 
 // An arc with its label and those of its ends.
 fn told_arc(
-    alloc: Global,
     id: u32,
     graph: &ListDigraph,
     node_labels: &LabelTable,
@@ -71,16 +70,16 @@ fn told_arc(
     let Some(fact) = graph.fact(ItemSort::Arc, id) else {
         unreachable!()
     };
-    let name = copy_label(alloc, arc_labels, id)?;
-    let from = copy_label(alloc, node_labels, fact.from)?;
-    let to = copy_label(alloc, node_labels, fact.to)?;
+    let name = copy_label(arc_labels, id)?;
+    let from = copy_label(node_labels, fact.from)?;
+    let to = copy_label(node_labels, fact.to)?;
     Ok(ArcLine { id, name, from, to })
 }
 
 // The label of the item with this id.
-fn copy_label(alloc: Global, labels: &LabelTable, id: u32) -> Result<Text, AllocError>
+fn copy_label(labels: &LabelTable, id: u32) -> Result<Text, AllocError>
     requires { id < length labels.now }
     ensures { IfOk result (λ label. label ≡ label_at labels.now id) }
 {
-    copy_text(alloc, labels.label(id as usize).as_bytes())
+    labels.label(id as usize).clone()
 }
