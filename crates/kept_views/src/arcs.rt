@@ -36,6 +36,13 @@ impl KeptArcs {
         }
     }
 
+    /// The shape of the view.
+    pub fn shape(&self) -> KeptShape
+        ensures { result ≡ self.now.shape }
+    {
+        self.shape
+    }
+
     /// Places a live arc by its present values: forward where its capacity is above its flow,
     /// backward where its flow is above 0. Where there is no filter it is shown.
     pub fn set(&mut self, id: u32, shown: bool, forward: bool, backward: bool)
