@@ -1,0 +1,13 @@
+-- That all arcs have their ends has one proof at most.
+use Rattle.std.specs.Prelude.{IsTrue, List, [], ◌∷◌}
+use Rattle.std.proofs.Props as below
+use Rattle.plain_digraph.specs.Facts.{fact_id}
+use Rattle.plain_digraph.specs.Lists.{AllOf}
+use Rattle.observe_core.specs.Held.{Marked}
+use Rattle.observe_core.specs.Items.{has_id}
+use Rattle.observe_core.specs.Seen.{facts_of_marked}
+use Rattle.kept_walks.specs.Stored.{HasEnds}
+
+pub ends-prop : (nodes arcs : List Marked) → IsProp (HasEnds nodes arcs)
+ends-prop nodes [] = Prim.hlevel below.props
+ends-prop nodes (a ∷ arcs) = let rest = ends-prop nodes arcs in Prim.hlevel (rest, below.props)

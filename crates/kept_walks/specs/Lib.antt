@@ -1,0 +1,6 @@
+pub mod Stored
+pub mod EndsProp
+pub mod Falling
+pub mod Whole
+pub mod Parts
+pub mod Laws
