@@ -1,6 +1,7 @@
 //! Reads of what a seat holds, one call for each kind of content. No other variant has such items.
 
 use crate::seat::Seat;
+use kept_views::{KeptArcs, KeptNodes};
 use observe_core::Observer;
 use token_text::Text;
 
@@ -19,7 +20,9 @@ impl<B: Observer> Seat<B> {
     ghost use Rattle.desk_seats.specs.Forms.{HasForm};
     ghost use Rattle.desk_seats.specs.Forms as form;
     ghost use Rattle.desk_seats.specs.Contents.{ints_in, bools_in, texts_in, labels_in, trues_in};
-    ghost use Rattle.desk_seats.specs.Contents.{ends_in, ties_in};
+    ghost use Rattle.desk_seats.specs.Contents.{ends_in, ties_in, marked_in, role_in};
+    ghost use Rattle.observe_core.specs.Held.{KeptArcs as RoleArcs};
+    ghost use Rattle.kept_views.specs.Views.{nodes_of, arcs_of};
 
     /// The int of a live item of a map of ints.
     pub fn int(&self, id: u32) -> i64
@@ -161,6 +164,31 @@ impl<B: Observer> Seat<B> {
     {
         match self {
             Seat::Ties(ties) => ties.item(tie),
+            _ => unreachable!(),
+        }
+    }
+
+    /// The nodes of a kept view.
+    pub fn kept_nodes(&self) -> &KeptNodes
+        requires { HasForm form.nodes_form (⟦<Seat<B> as Observer>⟧.watch self.now) }
+        ensures { nodes_of result.now ≡ marked_in (⟦<Seat<B> as Observer>⟧.watch self.now).seen }
+    {
+        match self {
+            Seat::KeptNodes(nodes) => nodes,
+            _ => unreachable!(),
+        }
+    }
+
+    /// The arcs of a kept view.
+    pub fn kept_arcs(&self) -> &KeptArcs
+        requires { HasForm form.arcs_form (⟦<Seat<B> as Observer>⟧.watch self.now) }
+        ensures arcs { arcs_of result.now
+            ≡ marked_in (⟦<Seat<B> as Observer>⟧.watch self.now).seen }
+        ensures shape { RoleArcs result.now.shape
+            ≡ role_in (⟦<Seat<B> as Observer>⟧.watch self.now).seen }
+    {
+        match self {
+            Seat::KeptArcs(arcs) => arcs,
             _ => unreachable!(),
         }
     }
