@@ -38,8 +38,8 @@ second-prop : (o : Option Order) (fs : List Fact) → IsProp (IfSome o (λ o. Is
 second-prop None fs = Prim.hlevel below.props
 second-prop (Some o) fs = listed-prop o fs
 
-pub ordered-prop : (os : Orders) (fs : List Fact) → IsProp (IsOrdered os fs)
-ordered-prop os fs =
+pub order-prop : (os : Orders) (fs : List Fact) → IsProp (IsOrdered os fs)
+order-prop os fs =
     let first = listed-prop os.first fs in
     let second = second-prop os.second fs in
     Prim.hlevel (first, second, below.props)

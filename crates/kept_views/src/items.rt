@@ -5,7 +5,7 @@ ghost use Rattle.plain_digraph.specs.Facts.{fact_id};
 ghost use Rattle.observe_core.specs.Items.{above_all};
 ghost use Rattle.fact_table.specs.Table.{facts_of};
 ghost use Rattle.kept_views.specs.Ordered.{IsOrdered};
-ghost use Rattle.kept_views.specs.OrderedProp.{ordered-prop};
+ghost use Rattle.kept_views.specs.OrderedProp.{order-prop};
 
 use crate::orders::Orders;
 use base_items::Fact;
@@ -36,7 +36,7 @@ pub(crate) struct KeptItems {
     marks: Vec<Marks>,
     pub(crate) orders: Orders,
     ghost covered: { above_all (map fact_id (facts_of table)) ≤ vec_len marks },
-    ghost ordered: { IsOrdered orders (facts_of table) } by { ordered-prop orders (facts_of table) },
+    ghost ordered: { IsOrdered orders (facts_of table) } by { order-prop orders (facts_of table) },
 }
 
 impl KeptItems {
