@@ -6,8 +6,14 @@ use Rattle.plain_digraph.specs.Lists.{AllOf}
 use Rattle.observe_core.specs.Held.{Marked}
 use Rattle.observe_core.specs.Items.{has_id}
 use Rattle.observe_core.specs.Seen.{facts_of_marked}
-use Rattle.kept_walks.specs.Stored.{HasEnds}
+use Rattle.kept_views.specs.declared.nodes.KeptNodes.{KeptNodes}
+use Rattle.kept_views.specs.declared.arcs.KeptArcs.{KeptArcs}
+use Rattle.kept_views.specs.Views.{nodes_of, arcs_of}
+use Rattle.kept_walks.specs.Stored.{HasEnds, HoldEnds}
 
-pub ends-prop : (nodes arcs : List Marked) → IsProp (HasEnds nodes arcs)
+ends-prop : (nodes arcs : List Marked) → IsProp (HasEnds nodes arcs)
 ends-prop nodes [] = Prim.hlevel below.props
 ends-prop nodes (a ∷ arcs) = let rest = ends-prop nodes arcs in Prim.hlevel (rest, below.props)
+
+pub hold-prop : (n : KeptNodes) (a : KeptArcs) → IsProp (HoldEnds n a)
+hold-prop n a = ends-prop (nodes_of n) (arcs_of a)

@@ -76,3 +76,7 @@ HasEnds nodes arcs =
 -- all that the two observers hold
 abbrev pub shows_all : KeptNodes → KeptArcs → Shown
 shows_all n a = stored (facts_of_marked (nodes_of n)) (facts_of_marked (arcs_of a))
+
+-- of two observers
+abbrev pub HoldEnds : KeptNodes → KeptArcs → Type 0
+HoldEnds n a = HasEnds (nodes_of n) (arcs_of a)

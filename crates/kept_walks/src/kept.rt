@@ -3,7 +3,7 @@
 ghost use Rattle.std.specs.Prelude.{◌≡◌};
 ghost use Rattle.kept_views.specs.Views.{nodes_of, arcs_of};
 ghost use Rattle.plain_views.specs.Adaptors.{sub};
-ghost use Rattle.kept_walks.specs.Stored.{HasEnds, kept, is_shown, shows_all};
+ghost use Rattle.kept_walks.specs.Stored.{HoldEnds, kept, is_shown, shows_all};
 
 use crate::marked::{RoomMarks, ShownMarks};
 use crate::stored::Stored;
@@ -35,7 +35,7 @@ macro_rules! layers {
 
 // The part that is shown.
 fn part<'a>(nodes: &'a KeptNodes, arcs: &'a KeptArcs) -> Sub<Stored<'a>, ShownMarks<'a>>
-    requires { HasEnds (nodes_of nodes.now) (arcs_of arcs.now) }
+    requires { HoldEnds nodes.now arcs.now }
     ensures { ⟦<Sub<Stored<'a>, ShownMarks<'a>> as Shown>⟧.graph result
         ≡ sub (is_shown (nodes_of nodes.now)) (is_shown (arcs_of arcs.now))
         (shows_all nodes.now arcs.now) }
@@ -47,7 +47,7 @@ impl<'a> Kept<'a> {
     /// The view of the shape that the arcs were made for. Both ends of each arc that is held must
     /// be nodes that are held.
     pub fn new(nodes: &'a KeptNodes, arcs: &'a KeptArcs) -> Kept<'a>
-        requires { HasEnds (nodes_of nodes.now) (arcs_of arcs.now) }
+        requires { HoldEnds nodes.now arcs.now }
         ensures { ⟦<Kept<'a> as Shown>⟧.graph result
             ≡ kept arcs.now.shape (nodes_of nodes.now) (arcs_of arcs.now) }
     {

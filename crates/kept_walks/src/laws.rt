@@ -6,3 +6,9 @@ ghost use Rattle.kept_walks.specs.Laws as laws;
 pub fn stored_is_base()
     ensures { laws.StoredIsBase }
 {}
+
+/// Where two observers hold the facts of a valid digraph, each item placed by its present value, a
+/// kept sub shows the part of the digraph, as it stands, that passes the filter.
+pub fn kept_sub_follows()
+    ensures { laws.KeptSubFollows }
+{}

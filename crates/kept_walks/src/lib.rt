@@ -7,6 +7,6 @@ mod marked;
 mod stored;
 
 pub use kept::Kept;
-pub use laws::stored_is_base;
+pub use laws::{kept_sub_follows, stored_is_base};
 pub use marked::{RoomMarks, ShownMarks};
 pub use stored::Stored;

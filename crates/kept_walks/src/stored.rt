@@ -1,9 +1,8 @@
 //! All nodes and arcs that two observers hold, whether they are shown or not.
 
 ghost use Rattle.std.specs.Prelude.{◌≡◌, option_map};
-ghost use Rattle.kept_walks.specs.Stored.{HasEnds};
-ghost use Rattle.kept_walks.specs.EndsProp.{ends-prop};
-ghost use Rattle.kept_views.specs.Views.{nodes_of, arcs_of};
+ghost use Rattle.kept_walks.specs.Stored.{HoldEnds};
+ghost use Rattle.kept_walks.specs.EndsProp.{hold-prop};
 
 use base_items::{Arc, MAX_ARCS, Node};
 use kept_views::{KeptArcs, KeptNodes};
@@ -14,13 +13,13 @@ use view_core::Shown;
 pub struct Stored<'a> {
     nodes: &'a KeptNodes,
     arcs: &'a KeptArcs,
-    ghost ends: { HasEnds (nodes_of nodes.now) (arcs_of arcs.now) } by { ends-prop (nodes_of nodes.now) (arcs_of arcs.now) },
+    ghost ends: { HoldEnds nodes.now arcs.now } by { hold-prop nodes.now arcs.now },
 }
 
 impl<'a> Stored<'a> {
     /// All that these two hold; both ends of each arc must be nodes that are held.
     pub fn new(nodes: &'a KeptNodes, arcs: &'a KeptArcs) -> Stored<'a>
-        requires { HasEnds (nodes_of nodes.now) (arcs_of arcs.now) }
+        requires { HoldEnds nodes.now arcs.now }
         ensures nodes { result.nodes.now ≡ nodes.now }
         ensures arcs { result.arcs.now ≡ arcs.now }
     {
