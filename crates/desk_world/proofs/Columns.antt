@@ -11,7 +11,7 @@ use Rattle.token_text.specs.Names.{is_among, has_twice}
 use Rattle.lgf_file.specs.Rows.{Cells}
 use Rattle.lgf_file.specs.Documents.{label, dash, AreColumns}
 use Rattle.lgf_file.proofs.NameLists.{twice_front}
-use Rattle.lgf_file.proofs.ArcLabels.{none_labelled}
+use Rattle.lgf_file.proofs.ArcRows.{none_labelled}
 use Rattle.plain_machine.specs.World.{label_column, item_texts}
 
 -- A name that is none of some isn't one of fewer.

@@ -8,7 +8,7 @@ use Rattle.token_text.specs.Lines.{lines_of}
 use Rattle.lgf_file.specs.Documents.{Spells}
 use Rattle.lgf_file.specs.declared.documents.Doc.{Doc}
 use Rattle.lgf_file.specs.declared.faults.LgfFault.{LgfFault}
-use Rattle.lgf_file.proofs.FaultFree.{fault_spells_none}
+use Rattle.lgf_file.proofs.FirstFaults.{fault_spells_none}
 use Rattle.script_words.specs.declared.commands.Command.{Command}
 use Rattle.script_words.specs.declared.commands.Command.TheVariants as commands
 use Rattle.script_words.specs.Lines.{Says}

@@ -15,7 +15,7 @@ use Rattle.lgf_file.specs.Rows.{Cells}
 use Rattle.lgf_file.specs.Documents.{label, dash, labels_of, cell_at, AreColumns}
 use Rattle.lgf_file.specs.Documents as document
 use Rattle.lgf_file.proofs.NameLists.{twice_front}
-use Rattle.lgf_file.proofs.ArcLabels.{none_labelled}
+use Rattle.lgf_file.proofs.ArcRows.{none_labelled}
 use Rattle.plain_world.specs.Documents.{label_place, item_label, item_texts}
 
 -- the labels of rows, of which the first is that of the item with this id
