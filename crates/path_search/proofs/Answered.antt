@@ -30,13 +30,13 @@ some_near d z h = either (nat_lt d far) refl h
     either true is h = (grind (arith, nat_tests, is), cc)
     either false is h = absurd cc
 
-via_is : (d arc v s : ℕ) → d < far → v ≢ s → via_in d arc v s ≡ Some arc
+pub via_is : (d arc v s : ℕ) → d < far → v ≢ s → via_in d arc v s ≡ Some arc
 via_is d arc v s l ne =
     let e : nat_lt d far ≡ true = grind (arith, nat_tests) in
     let f : eqb v s ≡ false = grind (arith, nat_tests, ne) in
     rw (e, f)
 
-via_none : (d arc v s : ℕ) → (v ≡ s) ⊎ (dist_in d ≡ None) → via_in d arc v s ≡ None
+pub via_none : (d arc v s : ℕ) → (v ≡ s) ⊎ (dist_in d ≡ None) → via_in d arc v s ≡ None
 via_none d arc v s (inl e) = let f : eqb v s ≡ true = grind (arith, nat_tests, e) in
     either (nat_lt d far) f
   where

@@ -5,3 +5,13 @@ pub mod Settling
 pub mod RowsRead
 pub mod Expanding
 pub mod Answered
+pub mod TreeSteps
+pub mod TreeRounds
+pub mod TreeFound
+pub mod RoundSteps
+pub mod TreePaths
+pub mod Climbing
+pub mod Climbed
+pub mod RoundsBegun
+pub mod Rounded
+pub mod SignedFound

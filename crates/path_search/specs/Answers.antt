@@ -3,9 +3,11 @@ use Rattle.std.specs.Prelude.{◌≡◌, ℕ, ◌==◌, ◌&&◌, not, cond, nat
 use Rattle.std.specs.Prelude.{Option, None, Some, map}
 use Rattle.std.specs.List.{range_with_len}
 use Rattle.plain_certificates.specs.Numbered.{Numbered}
-use Rattle.plain_certificates.specs.Paths.{IsPaths}
+use Rattle.plain_certificates.specs.Paths.{IsPaths, IsNegativeCycle}
 use Rattle.plain_certificates.specs.Tables.{at}
 use Rattle.path_search.specs.Search.{far}
+use Rattle.path_search.specs.declared.signed_search.Walks.{Walks}
+use Rattle.path_search.specs.declared.signed_search.Walks.TheVariants as walks
 
 -- a distance, where it is one
 abbrev pub dist_in : ℕ → Option ℤ
@@ -29,3 +31,8 @@ pub record IsAnswer (g : Numbered) (len : List ℤ) (start : ℕ) (dists : List 
   pub dists_all : length dists ≡ g.nodes
   pub vias_all : length vias ≡ g.nodes
   pub paths : IsPaths g (at (pos 0) len) start (at None dists) (at None vias)
+
+-- the paths of these lengths, or a negative cycle
+abbrev pub AreWalks : Numbered → List ℤ → ℕ → Walks → Type 0
+AreWalks g len start (walks.Paths paths) = IsAnswer g len start paths.dist paths.via
+AreWalks g len start (walks.Cycle cycle) = IsNegativeCycle g (at (pos 0) len) start cycle

@@ -3,3 +3,7 @@ pub mod Search
 pub mod Steps
 pub mod Answers
 pub mod Lengths
+pub mod Tree
+pub mod Rounds
+pub mod Signed
+pub mod Climbs

@@ -45,7 +45,7 @@ fn dist_of(dist: u64) -> Option<i64>
 }
 
 /// The last arc, where there is one.
-fn via_of(dist: u64, via: u32, node: usize, s: u32) -> Option<u32>
+pub fn via_of(dist: u64, via: u32, node: usize, s: u32) -> Option<u32>
     ensures { result ≡ via_in dist via node s }
 {
     if dist < FAR && node != s as usize {
