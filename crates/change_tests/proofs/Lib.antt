@@ -1,0 +1,3 @@
+pub mod MoodySeats
+pub mod Outcomes
+pub mod Staying

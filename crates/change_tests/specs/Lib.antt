@@ -1,0 +1,3 @@
+pub mod Moods
+pub mod Names
+pub mod Watching
