@@ -42,7 +42,8 @@ pub record Back (g h : Digraph) (f : Fact) : Type 0 where
   pub valid : IsValid (before_move h f)
   pub moves : MovesTo (before_move h f) f.id h
 
-pub back : (g h : Digraph) (arc : ℕ) (f : Fact) → IsValid g → fact_of g sorts.Arc arc ≡ Some f → MovesTo g arc h → Back g h f
+pub back : (g h : Digraph) (arc : ℕ) (f : Fact) → IsValid g → fact_of g sorts.Arc arc ≡ Some f
+    → MovesTo g arc h → Back g h f
 back g h arc f valid told moves =
     let same = move_undone g h arc f valid told moves in
     let own : f.id ≡ arc = fact_of-id g sorts.Arc arc f told in
@@ -53,12 +54,14 @@ back g h arc f valid told moves =
     }
 
 -- An arc that was moved can be placed by the fact from before.
-pub placed_back : (g h : Digraph) (arc node : ℕ) (f : Fact) → IsValid g → IsValid h → IsLive g sorts.Arc arc
+pub placed_back : (g h : Digraph) (arc node : ℕ) (f : Fact) → IsValid g → IsValid h
+    → IsLive g sorts.Arc arc
     → fact_of g sorts.Arc arc ≡ Some f → h ≡ move_from g arc node → HasStampLeft h → CanPlace h f
 placed_back g h arc node f valid later live told moved left =
     let start = copy_is_kept g valid in
     let own : f.id ≡ arc = fact_of-id g sorts.Arc arc f told in
     let keeps = kept_if_not_lost g g (MoveFrom arc node) valid valid start.0 refl in
     let apart = stamps_stay_apart g g (MoveFrom arc node) valid valid start.1 live in
-    copied_can_be_placed g h f valid later (subst (Keeps g) (sym moved) keeps) (subst (StampsApart g) (sym moved) apart) left
+    copied_can_be_placed g h f valid later (subst (Keeps g) (sym moved) keeps)
+    (subst (StampsApart g) (sym moved) apart) left
     (ap (fact_of g sorts.Arc) own ∙ told)

@@ -1,2 +1,1 @@
-pub mod Moods
 pub mod Props

@@ -1,7 +1,8 @@
 //! A digraph at its limits, and room that was made before.
 
-use crate::steps::{Step, is_live, take};
+use crate::steps::{Step, take};
 use base_items::{Arc, ItemSort, Limit, MAX_ARCS, MAX_NODES, Node};
+use digraph_text::is_live;
 use list_digraph::{AddFault, ListDigraph};
 use std::test::Fail;
 

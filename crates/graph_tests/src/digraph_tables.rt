@@ -1,8 +1,8 @@
 //! Steps, what each tells, and the lists after it, worked out by hand.
 
-use crate::listing::listed;
 use crate::steps::{Step, take};
 use base_items::Fact;
+use digraph_text::listed;
 use list_digraph::ListDigraph;
 use std::alloc::{AllocError, Global};
 use std::process::Abort;
@@ -46,7 +46,8 @@ const ADDITIONS: [Row; 7] = [
     ),
 ];
 
-// A moved arc gets a new stamp at the end that moves, and stands in front there, also where the end stays the same.
+// A moved arc gets a new stamp at the end that moves, and stands in front there, also where the end
+// stays the same.
 const MOVES: [Row; 5] = [
     (
         Step::MoveFrom(0, 2),

@@ -7,8 +7,8 @@ use std::alloc::Global;
 use std::process::Abort;
 use std::test::Fail;
 
-// A notice; those that end in `Back` are undone where they are accepted. An arc is told by its id and
-// its ends.
+// A notice; those that end in `Back` are undone where they are accepted. An arc is told by its id
+// and its ends.
 #[derive(Clone, Copy, Debug)]
 enum Notice {
     Add(u32, u32, u32),

@@ -12,8 +12,8 @@ use std::fmt::Write;
 use std::process::Abort;
 use std::test::Fail;
 
-// A notice; those that end in `Back` are undone. An arc is told by its id and its target, with a stamp
-// that is its target too, so that a move back to a target is one back to the same fact.
+// A notice; those that end in `Back` are undone. An arc is told by its id and its target, with a
+// stamp that is its target too, so that a move back to a target is one back to the same fact.
 #[derive(Clone, Copy, Debug)]
 enum Notice {
     // the half is made anew when the arc is there alone
@@ -26,8 +26,8 @@ enum Notice {
     Clear,
 }
 
-// A notice, and what the half holds after it: whether it is valid, the added ids, and the moved arcs
-// with their targets at the making.
+// A notice, and what the half holds after it: whether it is valid, the added ids, and the moved
+// arcs with their targets at the making.
 type Row = (Notice, &'static str);
 
 const MOVES: [Row; 9] = [

@@ -9,8 +9,8 @@ use crate::undone::{
     turn_and_back,
 };
 use base_items::{Arc, Fact, ItemSort, Node};
+use digraph_text::is_live;
 use list_digraph::ListDigraph;
-use plain_digraph::live_items_are_told;
 
 /// A step on a digraph, whose items are named by their ids.
 #[derive(Clone, Copy, Debug)]
@@ -33,15 +33,6 @@ pub enum Step {
     MoveAndPlace(u32, u32),
 }
 
-/// Whether something is told of the item, which then is live.
-pub fn is_live(graph: &ListDigraph, sort: ItemSort, id: u32) -> bool
-    ensures { result ≡ true → items.IsLive graph.now.graph sort id }
-{
-    let count = graph.count(sort);
-    live_items_are_told();
-    graph.fact(sort, id).is_some()
-}
-
 // Whether the node is an end of no arc.
 fn is_bare(graph: &ListDigraph, node: Node) -> bool
     requires { items.IsLive graph.now.graph ItemSort.Node node.0 }
@@ -50,7 +41,8 @@ fn is_bare(graph: &ListDigraph, node: Node) -> bool
     graph.first_out(node).is_none() && graph.first_in(node).is_none()
 }
 
-/// Takes the step, and answers the fact that it tells of a new or moved item. None where it can't be taken.
+/// Takes the step, and answers the fact that it tells of a new or moved item. None where it can't
+/// be taken.
 pub fn take(graph: &mut ListDigraph, step: Step) -> Option<Option<Fact>> {
     match step {
         Step::AddNode => Some(Some(graph.add_node().ok()?)),

@@ -2,8 +2,9 @@
 
 ghost use Rattle.std.specs.Prelude.{◌≡◌};
 
-use crate::steps::{can_move, is_live};
+use crate::steps::can_move;
 use base_items::{Arc, Fact, ItemSort, Node};
+use digraph_text::is_live;
 use list_digraph::ListDigraph;
 
 /// Adds a node, tells its fact, and takes it back.
@@ -77,8 +78,8 @@ pub fn turn_and_back(graph: &mut ListDigraph, arc: u32) -> Option<Fact>
     Some(new)
 }
 
-/// Moves the source of an arc, and then places the arc by its fact from before. Tells the fact that the
-/// placing found.
+/// Moves the source of an arc, and then places the arc by its fact from before. Tells the fact that
+/// the placing found.
 pub fn move_and_place(graph: &mut ListDigraph, arc: u32, node: u32) -> Option<Fact> {
     if !can_move(graph, arc, node) {
         return None;

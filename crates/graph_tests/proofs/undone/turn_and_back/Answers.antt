@@ -4,17 +4,21 @@ use Rattle.graph_tests.proofs.undone.turn_and_back.Goals as goal
 
 pub put_back-requires-clause-before : goal.put_back-requires-clause-before
 put_back-requires-clause-before c =
-    (back c.args.graph.now.graph c.turn-new.new.self.graph c.args.arc c.in_ok-old.old c.count-count.ensures.valid
+    (back c.args.graph.now.graph c.turn-new.new.self.graph c.args.arc c.in_ok-old.old
+    c.count-count.ensures.valid
     (sym c.fact.ensures ∙ c.in_ok-old.was) (inr (inr (inl (sym c.turn-new.ensures.turned))))).valid
 
 pub put_back-requires-clause-moved : goal.put_back-requires-clause-moved
 put_back-requires-clause-moved c =
-    (back c.args.graph.now.graph c.turn-new.new.self.graph c.args.arc c.in_ok-old.old c.count-count.ensures.valid
+    (back c.args.graph.now.graph c.turn-new.new.self.graph c.args.arc c.in_ok-old.old
+    c.count-count.ensures.valid
     (sym c.fact.ensures ∙ c.in_ok-old.was) (inr (inr (inl (sym c.turn-new.ensures.turned))))).moves
 
 pub returns : goal.returns
 returns c = record {
   same = c.put_back.ensures.undone
-      ∙ (back c.args.graph.now.graph c.turn-new.new.self.graph c.args.arc c.in_ok-old.old c.count-count.ensures.valid
-      (sym c.fact.ensures ∙ c.in_ok-old.was) (inr (inr (inl (sym c.turn-new.ensures.turned))))).same;
+      ∙ (back c.args.graph.now.graph c.turn-new.new.self.graph c.args.arc c.in_ok-old.old
+      c.count-count.ensures.valid
+      (sym c.fact.ensures ∙ c.in_ok-old.was) (inr (inr (inl (sym
+      c.turn-new.ensures.turned))))).same;
 }
