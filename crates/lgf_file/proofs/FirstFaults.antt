@@ -1,8 +1,8 @@
 -- The first fault of a file is one alone, and is there where no document is spelled.
-use Rattle.std.proofs.Common.{◌≡◌, ℕ, ◌+◌, true, false, List, length, Some, None, refl, ap, Bool}
-use Rattle.std.proofs.Common.{Option, sym, ◌∙◌, [], ◌∷◌, arith, map}
-use Rattle.std.specs.Prelude.{nat_lt, MatchBool}
-use Rattle.std.proofs.lemmas.Bool.{ltb-true}
+use Rattle.std.proofs.Common.{◌≡◌, ℕ, ◌+◌, true, false, List, length, Some, None, refl, ap, Option}
+use Rattle.std.proofs.Common.{sym, ◌∙◌, [], ◌∷◌, arith, map, ⊎_elim}
+use Rattle.std.specs.Prelude.{nat_lt}
+use Rattle.std.proofs.lemmas.Bool.{cases_Bool, le-ltb}
 use Rattle.token_text.specs.Lines.{lines_of}
 use Rattle.lgf_file.specs.Sections.{Part, part, rows_in, Line}
 use Rattle.lgf_file.specs.Faults.{RowsFault, FirstFault, Reading, AreRead, rows_fault, FaultBy}
@@ -12,15 +12,14 @@ use Rattle.lgf_file.specs.Laws.{HasFault}
 use Rattle.lgf_file.specs.Rows.{Cells}
 use Rattle.lgf_file.specs.Documents.{labels_of, node_labels, arc_rows, IsTable, AreArcs}
 use Rattle.lgf_file.specs.Documents.{AreAttributes, NodesSpell, ArcsSpell, AttributesSpell}
-use Rattle.lgf_file.specs.Documents.{attribute_cells, Spells, IsDoc}
-use Rattle.lgf_file.specs.Reading.{PartsSpell}
+use Rattle.lgf_file.specs.Documents.{attribute_cells, Spells}
 use Rattle.lgf_file.specs.declared.sections.Section.TheVariants.{Nodes, Arcs, Attributes}
 use Rattle.lgf_file.specs.declared.faults.LgfFault.{LgfFault}
 use Rattle.lgf_file.specs.declared.faults.LgfKind.TheVariants.{NoNodes, NoArcs, ArcsFirst}
 use Rattle.lgf_file.specs.declared.documents.Doc.{Doc}
 use Rattle.lgf_file.specs.declared.documents.Table.{Table}
 use Rattle.lgf_file.specs.declared.documents.Link.{Link}
-use Rattle.lgf_file.proofs.Readings.{readings_one, read_as}
+use Rattle.lgf_file.proofs.Readings.{readings_one, read_as, some_readings}
 use Rattle.lgf_file.proofs.NodeTables.{nodes_fine}
 use Rattle.lgf_file.proofs.LinkLists.{arcs_fine}
 use Rattle.lgf_file.proofs.AttributeLists.{attributes_fine}
@@ -28,8 +27,7 @@ use Rattle.lgf_file.proofs.AttributeLists.{attributes_fine}
 -- ---- the first fault of a file by its sections
 
 module _ (lines : List (List ℕ)) where
-  pub no_nodes : (number : ℕ) → part Nodes lines ≡ None
-      → number ≡ length lines + 1
+  pub no_nodes : (number : ℕ) → part Nodes lines ≡ None → number ≡ length lines + 1
       → FirstFault lines (record { line = number; kind = NoNodes })
   no_nodes number none number_is =
       rw none (ap (λ own. record { line = own; kind = NoNodes }) number_is)
@@ -50,56 +48,58 @@ module _ (lines : List (List ℕ)) where
         → FirstFault lines fault
     rows_first fault behind rows = rw (nodes_is, arcs_is, behind) rows
 
--- ---- a file has one first fault alone
+-- ---- the first fault of the rows of three sections, as they are read
 
--- Rows that have a first fault have it however they are read.
-pub rows_fault_is : (nodes arcs attributes : List Line) (fault : LgfFault)
-    (first second third : List Reading) → RowsFault nodes arcs attributes fault
-    → AreRead nodes first → AreRead arcs second → AreRead attributes third
-    → rows_fault first second third ≡ Some fault
-rows_fault_is nodes arcs attributes fault first second third bad first_are second_are third_are =
-    rw (
-      readings_one nodes first bad.node_readings first_are bad.nodes_are,
-      readings_one arcs second bad.arc_readings second_are bad.arcs_are,
-      readings_one attributes third bad.attribute_readings third_are bad.attributes_are,
-    ) bad.fault_is
+module _ (nodes arcs attributes : List Line) where
+  abbrev pub parts_fault : Option LgfFault
+  parts_fault =
+      rows_fault (some_readings nodes).0 (some_readings arcs).0 (some_readings attributes).0
 
--- So they have one at most.
-rows_fault_one : (nodes arcs attributes : List Line) (one other : LgfFault)
-    → RowsFault nodes arcs attributes one → RowsFault nodes arcs attributes other → one ≡ other
-rows_fault_one nodes arcs attributes one other bad other_bad =
-    let both : ◌≡◌ {A = Option LgfFault} (Some one) (Some other) =
-    sym (rows_fault_is nodes arcs attributes one _ _ _ bad other_bad.nodes_are other_bad.arcs_are
-    other_bad.attributes_are) ∙ other_bad.fault_is in
-    cc
+  -- It is that of the rows, and that of the rows is it.
+  pub told : (fault : LgfFault) → RowsFault nodes arcs attributes fault → parts_fault ≡ Some fault
+  told fault bad = rw (
+    readings_one nodes _ bad.node_readings (some_readings nodes).1 bad.nodes_are,
+    readings_one arcs _ bad.arc_readings (some_readings arcs).1 bad.arcs_are,
+    readings_one attributes _ bad.attribute_readings (some_readings attributes).1
+        bad.attributes_are,
+  ) bad.fault_is
+
+  pub tells : (fault : LgfFault) → parts_fault ≡ Some fault → RowsFault nodes arcs attributes fault
+  tells fault is = record {
+    node_readings = (some_readings nodes).0;
+    arc_readings = (some_readings arcs).0;
+    attribute_readings = (some_readings attributes).0;
+    nodes_are = (some_readings nodes).1;
+    arcs_are = (some_readings arcs).1;
+    attributes_are = (some_readings attributes).1;
+    fault_is = is;
+  }
 
 -- A file has one first fault at most, by its sections.
 one_by : (end : ℕ) (nodes arcs : Option Part) (attributes : List Line) (one other : LgfFault)
     → FaultBy end nodes arcs attributes one → FaultBy end nodes arcs attributes other → one ≡ other
 one_by end None arcs attributes one other is other_is = is ∙ sym other_is
 one_by end (Some nodes) None attributes one other is other_is = is ∙ sym other_is
-one_by end (Some nodes) (Some arcs) attributes one other by other_by =
-    by_test (nat_lt arcs.at nodes.at) by other_by
-  where
-    first : LgfFault
-    first = record { line = arcs.at; kind = ArcsFirst }
-
-    by_test : (test : Bool) → MatchBool test (one ≡ first)
-        (RowsFault nodes.rows arcs.rows attributes one)
-        → MatchBool test (other ≡ first) (RowsFault nodes.rows arcs.rows attributes other)
-        → one ≡ other
-    by_test true is other_is = is ∙ sym other_is
-    by_test false bad other_bad =
-        rows_fault_one nodes.rows arcs.rows attributes one other bad other_bad
+one_by end (Some nodes) (Some arcs) attributes one other by other_by = ⊎_elim
+    (λ (before : nat_lt arcs.at nodes.at ≡ true).
+    let first : LgfFault = record { line = arcs.at; kind = ArcsFirst } in
+    let is : one ≡ first = rw before at by in
+    let other_is : other ≡ first = rw before at other_by in
+    is ∙ sym other_is)
+    (λ (behind : nat_lt arcs.at nodes.at ≡ false).
+    let both : ◌≡◌ {A = Option LgfFault} (Some one) (Some other) =
+    sym (told nodes.rows arcs.rows attributes one (rw behind at by))
+    ∙ told nodes.rows arcs.rows attributes other (rw behind at other_by) in
+    cc)
+    (cases_Bool (nat_lt arcs.at nodes.at))
 
 -- Bytes have one first fault at most.
 pub one_fault : (bytes : List ℕ) (one other : LgfFault) → HasFault bytes one → HasFault bytes other
     → one ≡ other
 one_fault bytes one other faulted other_faulted =
     let lines = lines_of bytes in
-    one_by (length lines + 1) (part Nodes lines) (part Arcs lines) (rows_in (part Attributes lines))
-    one other
-    faulted other_faulted
+    one_by (length lines + 1) (part Nodes lines) (part Arcs lines)
+    (rows_in (part Attributes lines)) one other faulted other_faulted
 
 -- ---- bytes that spell a document have no fault
 
@@ -132,38 +132,21 @@ attributes_fine_in lines attributes readings right spells are =
     let read = read_as lines (map attribute_cells attributes) readings spells are in
     read.fine attribute_fault [] (attributes_fine attributes right)
 
--- Sections that spell a document have no fault.
-rows_fine : (nodes arcs attributes : List Line) (doc : Doc) (fault : LgfFault) → IsDoc doc
-    → PartsSpell nodes arcs attributes doc → RowsFault nodes arcs attributes fault → ⊥
-rows_fine nodes arcs attributes doc fault valid spells bad =
-    let own = nodes_fine_in nodes doc.nodes _ valid.nodes_ok spells.nodes_are bad.nodes_are in
-    let links = arcs_fine_in arcs (node_labels doc.nodes) doc.arc_columns doc.arcs _ valid.arcs_ok
-    spells.arcs_are bad.arcs_are in
+-- Bytes that have a fault spell no document.
+pub fault_spells_none : (bytes : List ℕ) (fault : LgfFault) (doc : Doc) → HasFault bytes fault
+    → Spells bytes doc → ⊥
+fault_spells_none bytes fault doc faulted spells =
+    let valid = spells.valid in
+    let attributes = rows_in (part Attributes (lines_of bytes)) in
+    let behind = le-ltb spells.arc_part.at spells.node_part.at (omega (arith, spells.in_order)) in
+    let bad : RowsFault spells.node_part.rows spells.arc_part.rows attributes fault =
+    rw (spells.arc_part_is, spells.node_part_is, behind) at faulted in
+    let own =
+    nodes_fine_in _ doc.nodes _ valid.nodes_ok spells.nodes_are bad.nodes_are in
+    let links =
+    arcs_fine_in _ _ doc.arc_columns doc.arcs _ valid.arcs_ok spells.arcs_are bad.arcs_are in
     let pairs = attributes_fine_in attributes doc.attributes _ valid.attributes_ok
     spells.attributes_are bad.attributes_are in
     let none : rows_fault bad.node_readings bad.arc_readings bad.attribute_readings ≡ None =
     rw (own.0, own.1, links, pairs) refl in
     absurd (cc (sym bad.fault_is ∙ none))
-
--- Bytes that have a fault spell no document.
-pub fault_spells_none : (bytes : List ℕ) (fault : LgfFault) (doc : Doc) → HasFault bytes fault
-    → Spells bytes doc → ⊥
-fault_spells_none bytes fault doc faulted spells =
-    by_test _ (nat_lt spells.arc_part.at spells.node_part.at) refl
-    (rw (spells.arc_part_is, spells.node_part_is) at faulted)
-  where
-    attributes : List Line
-    attributes = rows_in (part Attributes (lines_of bytes))
-
-    by_test : (P : Type 0) (test : Bool) → nat_lt spells.arc_part.at spells.node_part.at ≡ test
-        → MatchBool test P (RowsFault spells.node_part.rows spells.arc_part.rows attributes fault)
-        → ⊥
-    by_test P true tested said = absurd (omega (arith, ltb-true _ _ tested, spells.in_order))
-    by_test P false tested bad =
-        rows_fine spells.node_part.rows spells.arc_part.rows attributes doc fault spells.valid
-        (record {
-          nodes_are = spells.nodes_are;
-          arcs_are = spells.arcs_are;
-          attributes_are = spells.attributes_are;
-        })
-        bad

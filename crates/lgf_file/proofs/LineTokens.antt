@@ -1,9 +1,8 @@
 -- The tokens of a line.
-use Rattle.std.proofs.Common.{◌≡◌, ℕ, List, [], ◌∷◌, refl, subst, true, false, Option, Some, None}
+use Rattle.std.proofs.Common.{◌≡◌, ℕ, List, [], ◌∷◌, refl, subst, Option, Some, None}
 use Rattle.std.proofs.Common.{inl, inr, drop, sym, ◌≤◌, ◌++◌, length, append_assoc, ◌+◌, ◌<◌, cond}
 use Rattle.std.proofs.Common.{ap, ◌∙◌, arith}
 use Rattle.std.specs.Prelude.{map}
-use Rattle.std.specs.Option.{is_some}
 use Rattle.std.proofs.lemmas.List.{append-nil}
 use Rattle.token_text.specs.Grammar.{after_blanks, Reads, NoToken}
 use Rattle.token_text.proofs.Determined.{token_one, no_word, bad_no_word, open_no_word}
@@ -38,47 +37,38 @@ abbrev pub cells_of : List Token → Cells
 cells_of tokens = map (λ (token : Token). token.bytes) tokens
 
 -- A line whose tokens can all be read has these and no other.
-pub has_words : (line : List ℕ) (at : ℕ) (tokens : List Token) (fault : Option ℕ)
-    → HasTokens line at tokens fault → is_some fault ≡ false
+pub has_words : (line : List ℕ) (at : ℕ) (tokens : List Token) → HasTokens line at tokens None
     → Words (drop at line) (cells_of tokens)
-has_words line at tokens (Some place) has ends = absurd (cc)
-has_words line at [] None none ends = none
-has_words line at (token ∷ tokens) None has ends =
-    (drop token.end line, has.0.word, has_words line token.end tokens None has.1 ends)
+has_words line at [] none = none
+has_words line at (token ∷ tokens) has =
+    (drop token.end line, has.0.word, has_words line token.end tokens has.1)
 
 -- A line with a token that can't be read has no list of tokens.
-pub no_words : (line : List ℕ) (at : ℕ) (tokens : List Token) (fault : Option ℕ)
-    → HasTokens line at tokens fault → is_some fault ≡ true → (cells : Cells)
-    → Words (drop at line) cells → ⊥
-no_words line at tokens None has faulty cells words = absurd (cc)
-no_words line at [] (Some place) stops faulty [] words =
+pub no_words : (line : List ℕ) (at : ℕ) (tokens : List Token) (place : ℕ)
+    → HasTokens line at tokens (Some place) → (cells : Cells) → Words (drop at line) cells → ⊥
+no_words line at [] place stops [] words =
     let same : Some place ≡ None = stop_alone line at (Some place) None stops words in absurd (cc)
-no_words line at [] (Some place) (inl bad) faulty (cell ∷ cells) words =
+no_words line at [] place (inl bad) (cell ∷ cells) words =
     bad_no_word line at place cell words.0 bad words.1
-no_words line at [] (Some place) (inr unclosed) faulty (cell ∷ cells) words =
+no_words line at [] place (inr unclosed) (cell ∷ cells) words =
     open_no_word line at place cell words.0 unclosed words.1
-no_words line at (token ∷ tokens) (Some place) has faulty [] words = no_word _ _ _ has.0.word words
-no_words line at (token ∷ tokens) (Some place) has faulty (cell ∷ cells) words =
+no_words line at (token ∷ tokens) place has [] words = no_word _ _ _ has.0.word words
+no_words line at (token ∷ tokens) place has (cell ∷ cells) words =
     let same = token_one _ _ _ _ _ has.0.word words.1 in
-    no_words line token.end tokens (Some place) has.1 faulty cells
+    no_words line token.end tokens place has.1 cells
     (subst (λ rest. Words rest cells) (sym same.1) words.2)
 
 -- ---- the tokens of a line as far as it was read
 
--- The tokens behind the place are those of the line behind the ones so far.
+-- Whatever tokens follow from the place on, the line has ones for those so far and them.
 pub record WordsSoFar (line : List ℕ) (at : ℕ) (cells : Cells) : Type 0 where
   pub within : at ≤ length line
-  pub before : (rest : Cells) → Words (drop at line) rest → Words line (cells ++ rest)
-  pub behind : (all : Cells) → Words line all → (rest : Cells) × Words (drop at line) rest
+  pub before : (rest : List Token) (fault : Option ℕ) → HasTokens line at rest fault
+      → (all : List Token) × HasTokens line 0 all fault × (cells_of all ≡ cells ++ cells_of rest)
 
--- What follows a token, where all that stands there can be read.
-words_behind : (line : List ℕ) (at start end : ℕ) (bytes : List ℕ) (cells : Cells)
-    → Reads line at start end bytes → Words (drop at line) cells
-    → (rest : Cells) × Words (drop end line) rest
-words_behind line at start end bytes [] reads ends = absurd (no_word _ _ _ reads.word ends)
-words_behind line at start end bytes (cell ∷ cells) reads words =
-    let same = token_one _ _ _ _ _ reads.word words.1 in
-    (cells, subst (λ own. Words own cells) (sym same.1) words.2)
+-- Nothing has been read yet.
+pub words_none : (line : List ℕ) → WordsSoFar line 0 []
+words_none line = record { within = omega arith; before = λ rest fault has. (rest, has, refl) }
 
 -- The line has been read up to the end of one more token.
 pub words_more : (line : List ℕ) (at start end : ℕ) (cells : Cells) (bytes : List ℕ)
@@ -86,24 +76,25 @@ pub words_more : (line : List ℕ) (at start end : ℕ) (cells : Cells) (bytes :
     → WordsSoFar line end (cells ++ bytes ∷ [])
 words_more line at start end cells bytes so_far reads = record {
   within = reads.end_in;
-  before = λ rest words.
-      rw append_assoc (so_far.before (bytes ∷ rest) (drop end line, reads.word, words));
-  behind = λ all words.
-      let left = so_far.behind all words in
-      words_behind line at start end bytes left.0 reads left.1;
+  before = λ rest fault has.
+      let token : Token = record { start = start; end = end; bytes = bytes } in
+      let whole = so_far.before (token ∷ rest) fault (reads, has) in
+      (whole.0, whole.1, whole.2 ∙ sym (append_assoc cells (bytes ∷ []) (cells_of rest)));
 }
 
 -- Where nothing follows, the ones so far are all of them.
 pub words_end : (line : List ℕ) (at : ℕ) (cells : Cells) → WordsSoFar line at cells
     → NoToken line at → Words line cells
-words_end line at cells so_far none = subst (Words line) (append-nil cells) (so_far.before [] none)
+words_end line at cells so_far none =
+    let all = so_far.before [] None none in
+    subst (Words line) (all.2 ∙ append-nil cells) (has_words line 0 all.0 all.1)
 
 -- Where a token can't be read, the line has no list of tokens.
 pub words_stop : (line : List ℕ) (at place : ℕ) (cells : Cells) → WordsSoFar line at cells
     → Stops line at (Some place) → (all : Cells) → Words line all → ⊥
-words_stop line at place cells so_far stops all words =
-    let left = so_far.behind all words in
-    no_words line at [] (Some place) stops refl left.0 left.1
+words_stop line at place cells so_far stops =
+    let read = so_far.before [] (Some place) stops in
+    no_words line 0 read.0 place read.1
 
 -- ---- the tokens of the first row of a section
 

@@ -5,7 +5,6 @@ use Rattle.std.proofs.lemmas.List.{take-append-drop}
 use Rattle.std.specs.Prelude.{slice_index_or}
 use Rattle.std.specs.Str.{bytes_eq}
 use Rattle.std.proofs.lemmas.Bool.{or_parts, or_from, both_ways, false_from_ne_true}
-use Rattle.std.proofs.lemmas.Bool.{true_from_ne_false}
 use Rattle.std.proofs.lemmas.List.Folds.{list_any-append, list_any_at}
 use Rattle.std.proofs.lemmas.Slice.Eq.{bytes_eq-Decides}
 use Rattle.token_text.specs.Names.{is_among, has_twice}
@@ -52,8 +51,7 @@ twice_front (first ∷ front) name more differ =
 
 -- Names that differ, and one more that is none of them, differ.
 pub twice_push : (names : Names) (name : List ℕ) → has_twice names ≡ false
-    → is_among name names ≡ false
-    → has_twice (names ++ name ∷ []) ≡ false
+    → is_among name names ≡ false → has_twice (names ++ name ∷ []) ≡ false
 twice_push [] name differ none = refl
 twice_push (first ∷ names) name differ none =
     let parts = or_parts (is_among first names) (has_twice names) differ in
@@ -86,14 +84,11 @@ one_place (first ∷ names) (suc place) (suc other) differ within other_within s
     let rest = (or_parts (is_among first names) (has_twice names) differ).1 in
     ap suc (one_place names place other rest (omega arith) (omega arith) same)
 
--- A name that stands among those before its place stands twice.
-pub twice_at : (names seen : Names) (place : ℕ) (name : List ℕ) → place < length names
-    → seen ≡ take place names → name ≡ slice_index_or names place [] → is_among name seen ≡ true
-    → has_twice names ≡ true
-twice_at names seen place name within seen_is name_is among =
-    let own = slice_index_or names place [] in
+-- Of names that differ none stands before its place.
+pub apart_at : (names : Names) (place : ℕ) → has_twice names ≡ false → place < length names
+    → is_among (slice_index_or names place []) (take place names) ≡ false
+apart_at names place differ within =
+    let name = slice_index_or names place [] in
     let split = sym (take-append-drop place names)
     ∙ ap (λ behind. take place names ++ behind) (drop-cons names place [] within) in
-    let here = rw (name_is, seen_is) at among in
-    true_from_ne_false (has_twice names) (λ differ. both_ways (is_among own (take place names))
-    (twice_front (take place names) own _ (sym (ap has_twice split) ∙ differ)) here)
+    twice_front (take place names) name _ (sym (ap has_twice split) ∙ differ)

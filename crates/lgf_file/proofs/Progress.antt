@@ -1,22 +1,22 @@
 -- Rows of a section, taken in one after the other.
-use Rattle.std.proofs.Common.{◌≡◌, List, [], ◌∷◌, ◌++◌, None, Some, Option, refl, ◌∙◌, subst}
+use Rattle.std.proofs.Common.{◌≡◌, List, [], ◌∷◌, ◌++◌, None, Some, Option, refl, ◌∙◌}
 use Rattle.std.proofs.Common.{append_assoc, append-nil}
 use Rattle.lgf_file.specs.Sections.{Line}
-use Rattle.lgf_file.specs.Rows.{Cells, Words, Rows}
+use Rattle.lgf_file.specs.Rows.{Cells, Words}
 use Rattle.lgf_file.specs.Faults.{Reading, IsRead, AreRead, row_fault, first_bad}
-use Rattle.lgf_file.specs.Reading.{Finds}
+use Rattle.lgf_file.specs.Reading.{Finds, AllRead}
 use Rattle.lgf_file.specs.declared.faults.LgfKind.{LgfKind}
 use Rattle.lgf_file.specs.declared.faults.LgfFault.{LgfFault}
 use Rattle.lgf_file.proofs.Readings.{first_read}
 
--- Of the lines some were read as these rows, which are in order, and the others are left: rows and
--- the first fault of these, behind the rows, are those of all.
+-- Of the lines some were read as these rows, and the others are left: where the rows of these are
+-- in order behind them, all are, and the first fault of these is that of all.
 pub record Progress (fault : List Cells → Cells
     → Option LgfKind) (lines : List Line) (read : List Cells) (left : List Line) : Type 0 where
-  pub rows : (rest : List Cells) → Rows left rest → Rows lines (read ++ rest)
+  pub rows : (rest : List Cells) → AllRead fault read left rest
+      → AllRead fault [] lines (read ++ rest)
   pub finds : (found : Option LgfFault) → ((readings : List Reading) → AreRead left readings
-      → first_bad fault read readings ≡ found)
-      → Finds fault lines found
+      → first_bad fault read readings ≡ found) → Finds fault lines found
 
 module _ (fault : List Cells → Cells → Option LgfKind) (lines : List Line) where
   -- Nothing was read yet.
@@ -26,11 +26,11 @@ module _ (fault : List Cells → Cells → Option LgfKind) (lines : List Line) w
   -- A row was read that isn't at fault.
   pub push : (read after : List Cells) (left more : List Line) (line : Line) (cells : Cells)
       → Progress fault lines read left → left ≡ line ∷ more → Words line.1 cells
-      → fault read cells ≡ None
-      → after ≡ read ++ cells ∷ [] → Progress fault lines after more
+      → fault read cells ≡ None → after ≡ read ++ cells ∷ [] → Progress fault lines after more
   push read after left more line cells was left_is words none after_is =
       rw after_is (record {
-        rows = λ rest are. rw append_assoc (was.rows (cells ∷ rest) (rw left_is (words, are)));
+        rows = λ rest all. rw append_assoc (was.rows (cells ∷ rest)
+            (record { read_is = rw left_is (words, all.read_is); fine = (none, all.fine) }));
         finds = λ found is. was.finds found (λ readings are.
             let first = first_read fault read line more (Some cells) readings words
             (rw left_is at are) in
@@ -39,8 +39,9 @@ module _ (fault : List Cells → Cells → Option LgfKind) (lines : List Line) w
 
   -- No row is left.
   pub finish : (read : List Cells) (left : List Line) → Progress fault lines read left → left ≡ []
-      → Rows lines read
-  finish read left was none = subst (Rows lines) (append-nil read) (was.rows [] (rw none tt))
+      → AllRead fault [] lines read
+  finish read left was none =
+      rw append-nil at (was.rows [] (record { read_is = rw none tt; fine = tt }))
 
   -- The next row is at fault.
   pub fail : (read : List Cells) (left more : List Line) (line : Line) (row : Option Cells)

@@ -5,7 +5,7 @@ use Rattle.lgf_file.specs.Sections.{Line}
 use Rattle.lgf_file.specs.Rows.{Cells, Rows}
 use Rattle.lgf_file.specs.Faults.{Reading, IsRead, AreRead, row_of, rows_read, row_fault}
 use Rattle.lgf_file.specs.Faults.{told_or, first_bad}
-use Rattle.lgf_file.specs.Reading.{InOrder}
+use Rattle.lgf_file.specs.Reading.{InOrder, AllRead}
 use Rattle.lgf_file.specs.declared.faults.LgfKind.{LgfKind}
 use Rattle.lgf_file.proofs.LineTokens.{words_one, cells_of, has_words, no_words}
 
@@ -39,8 +39,8 @@ pub some_read : (text : List ℕ) → (read : Option Cells) × IsRead text read
 some_read text = by_tokens (some_tokens text)
   where
     by_tokens : TokensFrom text 0 → (read : Option Cells) × IsRead text read
-    by_tokens (tokens, None, has) = (Some (cells_of tokens), has_words text 0 tokens None has refl)
-    by_tokens (tokens, Some place, has) = (None, no_words text 0 tokens (Some place) has refl)
+    by_tokens (tokens, None, has) = (Some (cells_of tokens), has_words text 0 tokens has)
+    by_tokens (tokens, Some place, has) = (None, no_words text 0 tokens place has)
 
 pub some_readings : (lines : List Line) → (readings : List Reading) × AreRead lines readings
 some_readings [] = ([], tt)
@@ -71,8 +71,7 @@ first_read fault before line lines row (reading ∷ readings) row_is are =
 pub record ReadAs (readings : List Reading) (rows : List Cells) : Type 0 where
   pub rows_are : rows_read readings ≡ rows
   pub fine : (fault : List Cells → Cells → Option LgfKind) (before : List Cells)
-      → InOrder fault before rows
-      → first_bad fault before readings ≡ None
+      → InOrder fault before rows → first_bad fault before readings ≡ None
 
 pub read_as : (lines : List Line) (rows : List Cells) (readings : List Reading) → Rows lines rows
     → AreRead lines readings → ReadAs readings rows
@@ -102,12 +101,6 @@ rows_one lines one other rows other_rows =
     let read = some_readings lines in
     sym (read_as lines one read.0 rows read.1).rows_are
     ∙ (read_as lines other read.0 other_rows read.1).rows_are
-
--- Lines are rows with these tokens, which are in order behind others.
-pub record AllRead (fault : List Cells → Cells
-    → Option LgfKind) (before : List Cells) (lines : List Line) (rows : List Cells) : Type 0 where
-  pub read_is : Rows lines rows
-  pub fine : InOrder fault before rows
 
 -- Lines without a fault have rows, which are in order.
 pub none_bad : (fault : List Cells → Cells → Option LgfKind) (before : List Cells)

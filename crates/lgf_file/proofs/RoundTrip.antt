@@ -1,68 +1,51 @@
 -- The written document spells its document.
 use Rattle.std.proofs.Common.{◌≡◌, ℕ, ◌+◌, ◌<◌, List, [], ◌∷◌, ◌++◌, map, length, true, Some, refl}
-use Rattle.std.proofs.Common.{sym, ap, ◌∙◌, subst, arith, append-nil}
+use Rattle.std.proofs.Common.{sym, ap, ◌∙◌, arith, append-nil, subst}
 use Rattle.std.specs.Prelude.{codes, All}
 use Rattle.std.proofs.lemmas.List.{map-id}
-use Rattle.std.proofs.lemmas.List.Elements.{All-head, All-tail}
+use Rattle.std.proofs.lemmas.List.Elements.{All-nil, All-cons, All-append}
 use Rattle.token_text.specs.Lines.{IsInside, lines_of}
 use Rattle.token_text.specs.Names.{is_among}
-use Rattle.lgf_file.specs.Sections.{kind_of, Line, rows_of, part, part_from, rows_in}
+use Rattle.lgf_file.specs.Sections.{Line, rows_of, part, part_from, rows_in}
 use Rattle.lgf_file.specs.Rows.{Cells, Rows}
-use Rattle.lgf_file.specs.Documents.{Spells, IsDoc, label, node_labels, link_cells, label_at}
+use Rattle.lgf_file.specs.Documents.{Spells, IsDoc, label, node_labels, link_cells, arc_rows}
 use Rattle.lgf_file.specs.Documents.{attribute_cells}
 use Rattle.lgf_file.specs.Plain.{plain, plain_lines, row_text, head_text, attribute_lines}
 use Rattle.lgf_file.specs.Plain.{attribute_text}
 use Rattle.lgf_file.specs.declared.documents.Doc.{Doc}
 use Rattle.lgf_file.specs.declared.documents.Link.{Link}
 use Rattle.lgf_file.specs.declared.sections.Section.TheVariants.{Nodes, Arcs, Attributes}
-use Rattle.lgf_file.specs.declared.sections.LineKind.TheVariants.{Row}
-use Rattle.lgf_file.proofs.WrittenLines.{row_words, head_words, attribute_words, row_is_row}
-use Rattle.lgf_file.proofs.WrittenLines.{head_is_row, attribute_is_row, inside_by_test, row_inside}
-use Rattle.lgf_file.proofs.WrittenLines.{head_inside, attribute_inside, Each, each_text}
-use Rattle.lgf_file.proofs.WrittenLines.{lines_joined, all_inside_both, IsRow, numbered, EndsRows}
-use Rattle.lgf_file.proofs.WrittenLines.{rows_numbered, rows_are, part_behind}
+use Rattle.lgf_file.proofs.WrittenLines.{row_right, head_right, attribute_right, inside_by_test}
+use Rattle.lgf_file.proofs.WrittenLines.{RowTexts, texts_more, texts_of, numbered, lines_joined}
+use Rattle.lgf_file.proofs.WrittenLines.{rows_numbered, part_behind}
 
 -- Where a name is among others, there is one.
 some_among : (name : List ℕ) (names : Cells) → is_among name names ≡ true → 0 < length names
 some_among name [] among = absurd (cc)
 some_among name (other ∷ names) among = omega arith
 
--- ---- rows of nodes
-
--- A row with a token is a row.
-some_row : (cells : Cells) → 0 < length cells → kind_of (row_text cells) ≡ Row
-some_row [] some = absurd (omega arith)
-some_row (cell ∷ cells) some = row_is_row cell cells
-
--- Rows of one width, which have a token each.
-wide_rows : (width : ℕ) (rows : List Cells) → 0 < width → All (λ cells. length cells ≡ width) rows
-    → Each IsRow (map row_text rows)
-wide_rows width [] some wide = tt
-wide_rows width (cells ∷ rows) some wide =
-    let first = All-head (λ (own : Cells). length own ≡ width) cells rows wide in
-    let others = All-tail (λ (own : Cells). length own ≡ width) cells rows wide in
-    (some_row cells (omega arith), wide_rows width rows some others)
-
--- The written rows have their tokens.
-rows_same : (number : ℕ) (rows : List Cells) → Rows (numbered number (map row_text rows)) rows
-rows_same number rows =
-    subst (Rows (numbered number (map row_text rows))) (map-id rows)
-    (rows_are row_text (λ cells. cells) row_words number rows)
-
 -- ---- attributes
 
+-- The lines of attributes are rows with their tokens.
+attribute_texts : (attributes : List (List ℕ × List ℕ))
+    → RowTexts (map attribute_text attributes) (map attribute_cells attributes)
+attribute_texts attributes =
+    texts_of attribute_text attribute_cells attributes (λ k none within. attribute_right _)
+
 -- The lines of attributes end a section in front of them.
-attributes_end : (attributes : List (List ℕ × List ℕ)) → EndsRows (attribute_lines attributes)
+attributes_end : (attributes : List (List ℕ × List ℕ)) (number : ℕ)
+    → rows_of number (attribute_lines attributes) ≡ []
 attributes_end [] number = refl
 attributes_end (attribute ∷ attributes) number = refl
 
 -- The lines of attributes have no line end.
 attributes_inside : (attributes : List (List ℕ × List ℕ))
-    → Each IsInside (attribute_lines attributes)
-attributes_inside [] = tt
+    → All IsInside (attribute_lines attributes)
+attributes_inside [] = All-nil IsInside
 attributes_inside (attribute ∷ attributes) =
-    let texts = each_text IsInside attribute_text attribute_inside (attribute ∷ attributes) in
-    (inside_by_test (codes "@attributes") refl, texts)
+    All-cons IsInside (codes "@attributes") (map attribute_text (attribute ∷ attributes))
+    (inside_by_test (codes "@attributes") refl)
+    (attribute_texts (attribute ∷ attributes)).inside
 
 -- The rows of the attributes among their lines have the tokens of the attributes.
 attribute_rows : (number : ℕ) (attributes : List (List ℕ × List ℕ))
@@ -71,13 +54,10 @@ attribute_rows : (number : ℕ) (attributes : List (List ℕ × List ℕ))
 attribute_rows number [] = tt
 attribute_rows number (attribute ∷ attributes) =
     let own = attribute ∷ attributes in
-    let lines = map attribute_text own in
-    let rows = each_text IsRow attribute_text attribute_is_row own in
-    let all : rows_of (number + 1) lines ≡ numbered (number + 1) lines =
-    ap (rows_of (number + 1)) (sym (append-nil lines))
-    ∙ rows_numbered (number + 1) lines [] rows (λ other. refl) in
-    subst (λ found. Rows found (map attribute_cells own)) (sym all)
-    (rows_are attribute_text attribute_cells attribute_words (number + 1) own)
+    let texts = attribute_texts own in
+    let all = ap (rows_of (number + 1)) (sym (append-nil (map attribute_text own)))
+    ∙ rows_numbered [] (λ other. refl) (number + 1) (map attribute_text own) texts.are_rows in
+    subst (λ found. Rows found (map attribute_cells own)) (sym all) (texts.words (number + 1))
 
 -- ---- documents
 
@@ -107,85 +87,54 @@ module _ (doc : Doc) (valid : IsDoc doc) where
   abbrev arcs_at : ℕ
   arcs_at = 2 + length node_texts
 
-  -- The lines of the nodes are rows.
-  node_texts_rows : Each IsRow node_texts
-  node_texts_rows =
+  -- The lines of the nodes are rows with their tokens.
+  nodes_are : RowTexts node_texts (doc.nodes.columns ∷ doc.nodes.rows)
+  nodes_are =
       let some = some_among label doc.nodes.columns valid.nodes_ok.labelled in
-      let rows = wide_rows (length doc.nodes.columns) doc.nodes.rows some valid.nodes_ok.wide in
-      (some_row doc.nodes.columns some, rows)
+      let rows = texts_of row_text (λ cells. cells) doc.nodes.rows (λ k none within.
+      row_right _ (omega (arith, some, valid.nodes_ok.wide k none within))) in
+      texts_more _ _ _ _ (row_right doc.nodes.columns some) (rw map-id at rows)
 
-  -- The line of an arc is a row.
-  arc_is_row : (arc : Link) → kind_of (text_of arc) ≡ Row
-  arc_is_row arc =
-      let labels = node_labels doc.nodes in
-      row_is_row (label_at labels arc.from) (label_at labels arc.to ∷ arc.values)
+  -- So are those of the arcs.
+  arcs_are : RowTexts arc_texts (arc_rows (node_labels doc.nodes) doc.arc_columns doc.arcs)
+  arcs_are =
+      texts_more _ _ _ _ (head_right doc.arc_columns)
+      (texts_of text_of cells_of doc.arcs (λ k none within. row_right _ (omega arith)))
 
-  -- The lines of the arcs are rows.
-  arc_texts_rows : Each IsRow arc_texts
-  arc_texts_rows = (head_is_row doc.arc_columns, each_text IsRow text_of arc_is_row doc.arcs)
-
-  -- The lines of the nodes, with the one that opens them, have no line end.
-  nodes_inside : Each IsInside (codes "@nodes" ∷ node_texts)
-  nodes_inside =
-      let texts = each_text IsInside row_text row_inside doc.nodes.rows in
-      (inside_by_test (codes "@nodes") refl, (row_inside doc.nodes.columns, texts))
-
-  -- Nor have those of the arcs.
-  arcs_inside : Each IsInside (codes "@arcs" ∷ arc_texts)
-  arcs_inside =
-      let texts = each_text IsInside text_of (λ arc. row_inside (cells_of arc)) doc.arcs in
-      (inside_by_test (codes "@arcs") refl, (head_inside doc.arc_columns, texts))
-
-  -- Nor has any line of the document.
-  lines_inside : Each IsInside (plain_lines doc)
-  lines_inside =
-      let last = attributes_inside doc.attributes in
-      let behind = all_inside_both (codes "@arcs" ∷ arc_texts) last_lines arcs_inside last in
-      all_inside_both (codes "@nodes" ∷ node_texts) arcs_on nodes_inside behind
-
-  -- So these are the lines of the written document.
+  -- No line has a line end, so these are the lines of the written document.
   lines_are : lines_of (plain doc) ≡ plain_lines doc
-  lines_are = lines_joined (plain_lines doc) lines_inside
+  lines_are =
+      let arcs_inside = All-cons IsInside (codes "@arcs") (arc_texts ++ last_lines)
+      (inside_by_test (codes "@arcs") refl)
+      (All-append IsInside arc_texts last_lines arcs_are.inside
+      (attributes_inside doc.attributes)) in
+      lines_joined (plain_lines doc)
+      (All-cons IsInside (codes "@nodes") (node_texts ++ arcs_on)
+      (inside_by_test (codes "@nodes") refl)
+      (All-append IsInside node_texts arcs_on nodes_are.inside arcs_inside))
 
-  -- The first section of nodes begins at the first line, with the lines of the nodes as its rows.
-  node_part_is : part Nodes (plain_lines doc)
-      ≡ Some (record { at = 1; rows = numbered 2 node_texts })
-  node_part_is =
-      ap (λ (rows : List Line). Some (record { at = 1; rows = rows }))
-      (rows_numbered 2 node_texts arcs_on node_texts_rows (λ number. refl))
-
-  -- The first section of arcs begins behind it, with the lines of the arcs as its rows.
-  arc_part_is : part Arcs (plain_lines doc)
-      ≡ Some (record { at = arcs_at; rows = numbered (arcs_at + 1) arc_texts })
-  arc_part_is =
-      part_behind Arcs 2 node_texts arcs_on node_texts_rows
-      ∙ ap (λ (rows : List Line). Some (record { at = arcs_at; rows = rows }))
-      (rows_numbered (arcs_at + 1) arc_texts last_lines arc_texts_rows
-      (attributes_end doc.attributes))
-
-  -- The first section of attributes is the first among the lines behind the arcs.
-  attribute_part_is : part Attributes (plain_lines doc)
-      ≡ part_from (arcs_at + 1 + length arc_texts) Attributes last_lines
-  attribute_part_is =
-      part_behind Attributes 2 node_texts arcs_on node_texts_rows
-      ∙ part_behind Attributes (arcs_at + 1) arc_texts last_lines arc_texts_rows
-
-  -- The written document spells its document.
+  -- The written document spells its document: the first section of nodes begins at the first line,
+  -- that of arcs behind its rows, and that of attributes behind those of the arcs.
   pub plain_spells : Spells (plain doc) doc
   plain_spells = record {
     valid = valid;
     node_part = record { at = 1; rows = numbered 2 node_texts };
     arc_part = record { at = arcs_at; rows = numbered (arcs_at + 1) arc_texts };
-    node_part_is = ap (part Nodes) lines_are ∙ node_part_is;
-    arc_part_is = ap (part Arcs) lines_are ∙ arc_part_is;
+    node_part_is = ap (part Nodes) lines_are
+        ∙ ap (λ (rows : List Line). Some (record { at = 1; rows = rows }))
+        (rows_numbered arcs_on (λ number. refl) 2 node_texts nodes_are.are_rows);
+    arc_part_is = ap (part Arcs) lines_are
+        ∙ part_behind arcs_on Arcs 2 node_texts nodes_are.are_rows
+        ∙ ap (λ (rows : List Line). Some (record { at = arcs_at; rows = rows }))
+        (rows_numbered last_lines (attributes_end doc.attributes) (arcs_at + 1) arc_texts
+        arcs_are.are_rows);
     in_order = omega arith;
-    nodes_are = (row_words doc.nodes.columns, rows_same 3 doc.nodes.rows);
-    arcs_are = (
-      head_words doc.arc_columns,
-      rows_are text_of cells_of (λ arc. row_words (cells_of arc)) (arcs_at + 1 + 1) doc.arcs,
-    );
+    nodes_are = nodes_are.words 2;
+    arcs_are = arcs_are.words (arcs_at + 1);
     attributes_are =
         subst (λ found. Rows (rows_in found) (map attribute_cells doc.attributes))
-        (sym (ap (part Attributes) lines_are ∙ attribute_part_is))
+        (sym (ap (part Attributes) lines_are
+        ∙ part_behind arcs_on Attributes 2 node_texts nodes_are.are_rows
+        ∙ part_behind last_lines Attributes (arcs_at + 1) arc_texts arcs_are.are_rows))
         (attribute_rows (arcs_at + 1 + length arc_texts) doc.attributes);
   }

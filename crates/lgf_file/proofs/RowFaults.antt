@@ -9,7 +9,7 @@ use Rattle.std.proofs.lemmas.Slice.Eq.{bytes_eq-Decides}
 use Rattle.token_text.specs.Names.{is_among}
 use Rattle.lgf_file.specs.Rows.{Cells}
 use Rattle.lgf_file.specs.Documents.{AreColumns, label_at}
-use Rattle.lgf_file.specs.Faults.{or_else, columns_fault, room_fault, width_fault, twice_fault}
+use Rattle.lgf_file.specs.Faults.{or_else, columns_fault, room_fault, width_fault}
 use Rattle.lgf_file.specs.declared.faults.LgfKind.{LgfKind}
 
 -- There isn't the first of two faults.
@@ -36,6 +36,18 @@ pub held : (kind : LgfKind) (test : Bool) → (if test then None else Some kind)
 held kind true none = refl
 held kind false none = absurd (cc)
 
+-- A test whose success is a fault failed, if another succeeded, behind which alone it counts.
+pub if_untold : (kind : LgfKind) (test other : Bool)
+    → (if test then (if other then Some kind else None) else None) ≡ None → test ≡ true
+    → other ≡ false
+if_untold kind true other none is = untold kind other none
+if_untold kind false other none is = absurd (cc)
+
+pub if_not : (kind : LgfKind) (test other : Bool) → (test ≡ true → other ≡ false)
+    → (if test then (if other then Some kind else None) else None) ≡ None
+if_not kind true other none = rw (none refl) refl
+if_not kind false other none = refl
+
 -- There are other than as many rows as there may be.
 pub room_open : (most : ℕ) (rows : List Cells) → (length rows ≡ most → ⊥)
     → room_fault most rows ≡ None
@@ -53,15 +65,9 @@ pub width_is : (wanted : ℕ) (cells : Cells) → width_fault wanted cells ≡ N
     → length cells ≡ wanted
 width_is wanted cells none = grind arith
 
--- The name didn't stand before.
-pub not_twice : (kind : LgfKind) (name : List ℕ) (names : Cells) → is_among name names ≡ false
-    → twice_fault kind name names ≡ None
-not_twice kind name names none = rw none refl
-
 -- Names of columns are without a fault.
 pub columns_right : (columns : Cells) → AreColumns columns → columns_fault columns ≡ None
-columns_right columns right =
-    rw (right.no_dash, right.differ) refl
+columns_right columns right = rw (right.no_dash, right.differ) refl
 
 pub columns_are : (columns : Cells) → columns_fault columns ≡ None → AreColumns columns
 columns_are columns none = record { differ = grind arith; no_dash = grind arith }

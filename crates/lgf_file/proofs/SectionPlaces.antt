@@ -1,15 +1,15 @@
 -- Where the sections of a file begin.
 use Rattle.std.proofs.Common.{◌≡◌, ℕ, ◌+◌, Bool, true, false, cond, List, [], ◌∷◌, ◌++◌, Some, None}
-use Rattle.std.proofs.Common.{Option, refl, ap, ◌∙◌, suc, get_or, sym, subst, arith}
+use Rattle.std.proofs.Common.{Option, refl, suc, get_or, subst, arith}
 use Rattle.std.specs.Prelude.{not, if◌then◌else◌}
 use Rattle.std.proofs.lemmas.Bool.{and_parts, not-true}
 use Rattle.token_text.specs.Bytes.{is_blank}
 use Rattle.token_text.specs.Grammar.{is_word_bytes, IsStop}
 use Rattle.token_text.specs.Lines.{lines_of}
-use Rattle.lgf_file.specs.Sections.{name_of, kind_of, is_opened_by, Part, part_from, rows_of}
+use Rattle.lgf_file.specs.Sections.{name_of, kind_of, is_opened_by, Part, part, part_from, rows_of}
 use Rattle.lgf_file.specs.Found.{section_at, found_or}
 use Rattle.lgf_file.specs.declared.sections.Section.{Section}
-use Rattle.lgf_file.specs.declared.sections.Section.TheVariants.{Nodes, Arcs, Attributes}
+use Rattle.lgf_file.specs.declared.sections.Section.TheVariants.{Nodes, Arcs}
 use Rattle.lgf_file.specs.declared.sections.LineKind.{LineKind}
 use Rattle.lgf_file.specs.declared.sections.LineKind.TheVariants.{Opens}
 
@@ -19,11 +19,10 @@ use Rattle.lgf_file.specs.declared.sections.LineKind.TheVariants.{Opens}
 pub name_is : (word rest : List ℕ) → is_word_bytes word ≡ true → IsStop rest
     → name_of (word ++ rest) ≡ word
 name_is [] [] visible stop = refl
-name_is [] (byte ∷ rest) visible stop = ap (λ blank. cond blank [] (byte ∷ name_of rest)) stop
+name_is [] (byte ∷ rest) visible stop = rw stop refl
 name_is (byte ∷ word) rest visible stop =
     let parts = and_parts (not (is_blank byte)) (is_word_bytes word) visible in
-    ap (λ blank. cond blank [] (byte ∷ name_of (word ++ rest))) (not-true (is_blank byte) parts.0)
-    ∙ ap (λ name. byte ∷ name) (name_is word rest parts.1 stop)
+    rw (not-true (is_blank byte) parts.0, name_is word rest parts.1 stop) refl
 
 -- The section that was found, or else the first one of the lines that are left.
 abbrev pub or_later : Option Part → Option Part → Option Part
@@ -38,15 +37,12 @@ pub one_on : (section : Section) (number : ℕ) (found : Option Part) (line rest
     (part_from (number + 1) section (lines_of after))
 one_on section number (Some found) line rest after same = refl
 one_on section number None line rest after same =
-    ap (part_from number section) same ∙ by_test (is_opened_by section (kind_of line))
+    rw same (by_test (is_opened_by section (kind_of line)) (section_at number after) _)
   where
-    by_test : (opens : Bool)
-        → cond opens (Some (section_at number after))
-        (part_from (number + 1) section (lines_of after))
-        ≡ or_later (cond opens (Some (section_at number after)) None)
-        (part_from (number + 1) section (lines_of after))
-    by_test true = refl
-    by_test false = refl
+    by_test : (opens : Bool) (here : Part) (later : Option Part)
+        → cond opens (Some here) later ≡ or_later (cond opens (Some here) None) later
+    by_test true here later = refl
+    by_test false here later = refl
 
 -- No line is left.
 pub found_all : (found : Option Part) → or_later found None ≡ found
@@ -55,21 +51,10 @@ found_all (Some found) = refl
 
 -- ---- the first sections of two kinds begin at two lines
 
--- A line that opens a section is named so.
-opened_is : (section : Section) (kind : LineKind) → is_opened_by section kind ≡ true
-    → kind ≡ Opens (Some section)
-opened_is Nodes (Opens (Some Nodes)) opens = refl
-opened_is Arcs (Opens (Some Arcs)) opens = refl
-opened_is Attributes (Opens (Some Attributes)) opens = refl
-opened_is section kind opens = absurd (cc)
-
--- A line opens one section at most.
-opened_one : (one other : Section) (kind : LineKind) → is_opened_by one kind ≡ true
-    → is_opened_by other kind ≡ true → one ≡ other
-opened_one one other kind opens other_opens =
-    let same : ◌≡◌ {A = LineKind} (Opens (Some one)) (Opens (Some other)) =
-    sym (opened_is one kind opens) ∙ opened_is other kind other_opens in
-    cc
+-- No line opens both a section of nodes and one of arcs.
+opens_one : (kind : LineKind) → is_opened_by Nodes kind ≡ true → is_opened_by Arcs kind ≡ true → ⊥
+opens_one (Opens (Some Nodes)) opens other = absurd (cc)
+opens_one kind opens other = absurd (cc)
 
 -- The first section of its kind begins at a line that opens it, and its rows are those behind.
 pub record OpenedAt (number : ℕ) (section : Section) (lines : List (List ℕ)) (found : Part) : Type 0
@@ -109,17 +94,11 @@ opened_at number section (line ∷ lines) found is =
           rows_are = rest.rows_are;
         }
 
--- The first sections of two kinds begin at two lines.
-pub ats_differ : (number : ℕ) (one other : Section) → (one ≡ other → ⊥) → (lines : List (List ℕ))
-    (found other_found : Part) → part_from number one lines ≡ Some found
-    → part_from number other lines ≡ Some other_found → found.at ≡ other_found.at → ⊥
-ats_differ number one other differ lines found other_found is other_is same =
-    let first = opened_at number one lines found is in
-    let second = opened_at number other lines other_found other_is in
+-- The first sections of nodes and of arcs begin at two lines.
+pub ats_differ : (lines : List (List ℕ)) (nodes arcs : Part) → part Nodes lines ≡ Some nodes
+    → part Arcs lines ≡ Some arcs → nodes.at ≡ arcs.at → ⊥
+ats_differ lines nodes arcs nodes_is arcs_is same =
+    let first = opened_at 1 Nodes lines nodes nodes_is in
+    let second = opened_at 1 Arcs lines arcs arcs_is in
     let place : second.before ≡ first.before = omega (arith, first.at_is, second.at_is, same) in
-    differ (opened_one one other (kind_of (get_or lines first.before [])) first.opens
-    (subst (λ own. is_opened_by other (kind_of (get_or lines own [])) ≡ true) place second.opens))
-
--- A section of nodes is none of arcs.
-pub nodes_no_arcs : ◌≡◌ {A = Section} Nodes Arcs → ⊥
-nodes_no_arcs same = absurd (cc)
+    opens_one (kind_of (get_or lines first.before [])) first.opens (rw place at second.opens)

@@ -1,7 +1,6 @@
 -- What the sections of a file say is what the file says.
-use Rattle.std.proofs.Common.{◌≡◌, ℕ, cond, List, [], refl, sym, ap, ◌∙◌, Some, Option, ◌<◌}
-use Rattle.std.proofs.Common.{◌≤◌, None}
-use Rattle.std.proofs.Common.{Ok, Err, Result, subst, arith}
+use Rattle.std.proofs.Common.{◌≡◌, ℕ, cond, List, [], refl, sym, ap, ◌∙◌, Some, Option, ◌<◌, ◌≤◌}
+use Rattle.std.proofs.Common.{None, Ok, Err, Result, subst, arith}
 use Rattle.std.specs.Prelude.{nat_lt, IfOk, IfErr, option_map}
 use Rattle.std.specs.Option.{option_map_or}
 use Rattle.std.proofs.lemmas.Bool.{le-ltb}
@@ -25,11 +24,11 @@ use Rattle.lgf_file.specs.declared.sections.Begun.{Begun}
 use Rattle.lgf_file.specs.declared.sections.Section.TheVariants.{Nodes, Arcs, Attributes}
 use Rattle.lgf_file.proofs.Readings.{some_readings}
 use Rattle.lgf_file.proofs.FirstFaults.{nodes_fine_in, arcs_fine_in, attributes_fine_in}
-use Rattle.lgf_file.proofs.FirstFaults.{fault_spells_none, one_fault, rows_first}
+use Rattle.lgf_file.proofs.FirstFaults.{fault_spells_none, one_fault, rows_first, tells}
 use Rattle.lgf_file.proofs.NodeTables.{nodes_one}
 use Rattle.lgf_file.proofs.LinkLists.{arcs_one}
 use Rattle.lgf_file.proofs.AttributeLists.{attributes_one}
-use Rattle.lgf_file.proofs.SectionPlaces.{ats_differ, nodes_no_arcs}
+use Rattle.lgf_file.proofs.SectionPlaces.{ats_differ}
 
 -- ---- the first fault of the three sections of a file
 
@@ -79,35 +78,7 @@ module _ (nodes arcs attributes : List Line) (told : LgfFault)
   both_blamed other other_bad = λ first second third nodes_are arcs_are attributes_are i.
       earlier (bad first second nodes_are arcs_are i) (other_bad third attributes_are i)
 
--- Rows have the first fault that they have however they are read.
-rows_blamed : (nodes arcs attributes : List Line) (fault : LgfFault)
-    → PartsBlame nodes arcs attributes (Lgf fault) → RowsFault nodes arcs attributes fault
-rows_blamed nodes arcs attributes fault bad =
-    let first = some_readings nodes in
-    let second = some_readings arcs in
-    let third = some_readings attributes in
-    record {
-      node_readings = first.0;
-      arc_readings = second.0;
-      attribute_readings = third.0;
-      nodes_are = first.1;
-      arcs_are = second.1;
-      attributes_are = third.1;
-      fault_is = bad first.0 second.0 third.0 first.1 second.1 third.1;
-    }
-
 -- ---- bytes spell one document alone
-
--- Documents with equal nodes, columns of arcs, arcs and attributes are equal.
-doc_same : (one other : Doc) → one.nodes ≡ other.nodes → one.arc_columns ≡ other.arc_columns
-    → one.arcs ≡ other.arcs → one.attributes ≡ other.attributes → one ≡ other
-doc_same one other nodes columns arcs attributes =
-    λ i. record {
-      nodes = nodes i;
-      arc_columns = columns i;
-      arcs = arcs i;
-      attributes = attributes i;
-    }
 
 -- Bytes spell one document at most.
 pub one_document : (bytes : List ℕ) (one other : Doc) → Spells bytes one → Spells bytes other
@@ -125,9 +96,14 @@ one_document bytes one other spells other_spells =
     other.arc_columns one.arcs other.arcs other_spells.valid.nodes_ok.labels_differ
     (rw nodes at spells.valid.arcs_ok) other_spells.valid.arcs_ok
     (rw (arc_parts, nodes) at spells.arcs_are) other_spells.arcs_are in
-    doc_same one other nodes arcs.0 arcs.1
-    (attributes_one _ one.attributes other.attributes spells.attributes_are
-    other_spells.attributes_are)
+    let attributes = attributes_one _ one.attributes other.attributes spells.attributes_are
+    other_spells.attributes_are in
+    λ i. record {
+      nodes = nodes i;
+      arc_columns = arcs.0 i;
+      arcs = arcs.1 i;
+      attributes = attributes i;
+    }
 
 -- ---- what the three sections of a file say is what the file says
 
@@ -149,10 +125,7 @@ module _ (bytes : List ℕ) (nodes arcs : Part) (attributes : List Line)
     (order : nodes.at ≤ arcs.at) where
   -- The nodes stand first.
   first : nodes.at < arcs.at
-  first =
-      let differ =
-      ats_differ 1 Nodes Arcs nodes_no_arcs (lines_of bytes) nodes arcs nodes_is arcs_is in
-      omega (arith, differ)
+  first = omega (arith, ats_differ (lines_of bytes) nodes arcs nodes_is arcs_is)
 
   -- The document of the three sections is that of the file.
   pub spelled : (result : Result Doc DocFault)
@@ -179,7 +152,9 @@ module _ (bytes : List ℕ) (nodes arcs : Part) (attributes : List Line)
   blamed (Err Memory) blames = tt
   blamed (Err (Lgf fault)) blames =
       let behind = le-ltb arcs.at nodes.at order in
-      let rows = rows_blamed nodes.rows arcs.rows attributes fault blames in
+      let rows = tells nodes.rows arcs.rows attributes fault
+      (blames _ _ _ (some_readings nodes.rows).1 (some_readings arcs.rows).1
+      (some_readings attributes).1) in
       refused bytes fault (rows_first (lines_of bytes) nodes arcs nodes_is arcs_is fault behind
       (subst (λ own. RowsFault nodes.rows arcs.rows own fault) (sym attributes_is) rows))
 

@@ -2,7 +2,7 @@
 use Rattle.std.specs.Prelude.{◌≡◌, ℕ, ◌+◌, List, [], ◌∷◌, ◌++◌, None, Some, Option, ⊤}
 use Rattle.token_text.specs.Lines.{lines_of}
 use Rattle.lgf_file.specs.Sections.{Line, rows_of}
-use Rattle.lgf_file.specs.Rows.{Cells}
+use Rattle.lgf_file.specs.Rows.{Cells, Rows}
 use Rattle.lgf_file.specs.Documents.{NodesSpell, ArcsSpell, AttributesSpell, node_labels}
 use Rattle.lgf_file.specs.Faults.{Reading, AreRead, first_bad, graph_fault, rows_fault}
 use Rattle.lgf_file.specs.declared.documents.Doc.{Doc}
@@ -16,6 +16,12 @@ abbrev pub InOrder : (List Cells → Cells → Option LgfKind) → List Cells �
 InOrder fault before [] = Unit {0}
 InOrder fault before (cells ∷ rows) =
     (fault before cells ≡ None) × InOrder fault (before ++ cells ∷ []) rows
+
+-- Lines are rows with these tokens, which are in order behind others.
+pub record AllRead (fault : List Cells → Cells → Option LgfKind) (before : List Cells)
+    (lines : List Line) (rows : List Cells) : Type 0 where
+  pub read_is : Rows lines rows
+  pub fine : InOrder fault before rows
 
 -- The lines of a section have this first fault, however they are read.
 abbrev pub Finds : (List Cells → Cells → Option LgfKind) → List Line → Option LgfFault → Type 0

@@ -1,15 +1,17 @@
 //! The arcs of a graph file.
 
 ghost use Rattle.std.specs.Prelude.{◌≡◌, ◌<◌, ◌≤◌, ◌+◌, ◌∷◌, ◌++◌, [], length, map, IfOk, IfNone};
-ghost use Rattle.std.specs.Prelude.{IfSome, Some, None, List as Items};
+ghost use Rattle.std.specs.Prelude.{IfSome, Some, None, true, List as Items};
 ghost use Rattle.std.specs.Bool.{OnFalse};
 ghost use Rattle.base_items.specs.declared.limits.TheConstants.{MAX_NODES as NODE_LIMIT};
+ghost use Rattle.token_text.specs.Names.{is_among};
 ghost use Rattle.lgf_file.specs.Sections.{Line};
 ghost use Rattle.lgf_file.specs.Rows.{Rows};
-ghost use Rattle.lgf_file.specs.Documents.{AreArcs, ArcsSpell, link_cells};
+ghost use Rattle.lgf_file.specs.Documents.{AreArcs, ArcsSpell, label, label_in, link_cells};
 ghost use Rattle.lgf_file.specs.Faults as faults;
+ghost use Rattle.lgf_file.specs.Reading.{InOrder};
 ghost use Rattle.lgf_file.specs.Readers.{HoldsArcs, ArcsSound, IsEnds, IsHead, arcs_read};
-ghost use Rattle.lgf_file.specs.Readers.{is_label_among, labels_with};
+ghost use Rattle.lgf_file.specs.Readers.{columns_or_none, is_label_among};
 
 use crate::documents::Link;
 use crate::faults::LgfKind;
@@ -72,12 +74,15 @@ impl<'a> ArcReader<'a> {
     }
 
     /// The columns and the arcs that were read.
+    #[tactic(auto, using(crate::proofs::LinkLists::arcs_read_right))]
     pub fn finish(self, alloc: Global) -> (List<Text>, List<Link>)
         requires { ArcsSound self.nodes.now self.head self.arcs.items self.labels }
         ensures spelled { (lines : Items Line)
             → Rows lines (arcs_read self.entry.nodes.now self.entry.head self.entry.arcs.items)
             → ArcsSpell lines self.entry.nodes.now result.0 result.1 }
-        ensures arcs { AreArcs self.entry.nodes.now result.0 result.1 }
+        ensures arcs { InOrder (faults.arc_fault self.entry.nodes.now) []
+            (arcs_read self.entry.nodes.now self.entry.head self.entry.arcs.items)
+            → AreArcs self.entry.nodes.now result.0 result.1 }
     {
         let ArcReader {
             nodes: _,
@@ -85,15 +90,22 @@ impl<'a> ArcReader<'a> {
             arcs,
             labels: _,
         } = self;
-        let columns = match head {
-            Some(head) => head.columns,
-            None => List::from_vec(Vec::new(alloc)),
-        };
-        (columns, List::from_vec(arcs))
+        (columns_of(alloc, head), List::from_vec(arcs))
+    }
+}
+
+// The columns that the head names, or none.
+fn columns_of(alloc: Global, head: Option<Head>) -> List<Text>
+    ensures { result ≡ columns_or_none head }
+{
+    match head {
+        Some(head) => head.columns,
+        None => List::from_vec(Vec::new(alloc)),
     }
 }
 
 // The rows of the source and of the target of an arc. None where one of them is no node.
+#[tactic(auto, using(std::proofs::lemmas::Option::slice_get_within))]
 fn ends_of(nodes: &LabelTable, cells: &[Text]) -> Option<(u32, u32)>
     requires wide { 2 ≤ length cells.now }
     requires few { length nodes.now ≤ NODE_LIMIT }
@@ -119,7 +131,8 @@ fn insert_label(
     ensures twice { IfOk result (λ twice. twice ≡ is_label_among head.now.columns labels.old
         values.now) }
     ensures labels { IfOk result (λ twice.
-        OnFalse twice (labels.new ≡ labels_with head.now.columns labels.old values.now)) }
+        OnFalse twice (is_among label head.now.columns ≡ true
+        → labels.new ≡ labels.old ++ label_in head.now.columns values.now ∷ [])) }
 {
     let Some(_) = head.label_place else {
         return Ok(false);

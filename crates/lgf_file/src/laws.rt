@@ -4,6 +4,7 @@ ghost use Rattle.lgf_file.specs.Laws.{PlainSpells, OneDocument, FaultSpellsNone,
 ghost use Rattle.lgf_file.specs.Laws.{SomeAnswer};
 
 /// The written document spells its document. So what was written is read again as itself.
+#[tactic(auto, using(crate::proofs::RoundTrip::plain_spells))]
 pub fn plain_spells()
     ensures { PlainSpells }
 {}
@@ -19,6 +20,7 @@ pub fn fault_spells_none()
 {}
 
 /// There is one first fault at most.
+#[tactic(auto, using(crate::proofs::FirstFaults::one_fault))]
 pub fn one_fault()
     ensures { OneFault }
 {}

@@ -19,4 +19,4 @@ pub use faults::{DocFault, LgfFault, LgfKind};
 pub use heads::find_label;
 pub use laws::{fault_spells_none, one_document, one_fault, plain_spells, some_answer};
 pub use reading::read_doc;
-pub use writing::doc_bytes;
+pub use writing::{doc_bytes, push_attribute, push_cell, push_head, push_row};

@@ -5,6 +5,7 @@ ghost use Rattle.lgf_file.specs.Sections.{Line};
 ghost use Rattle.lgf_file.specs.Rows.{Rows};
 ghost use Rattle.lgf_file.specs.Documents.{IsTable, node_labels, NodesSpell};
 ghost use Rattle.lgf_file.specs.Faults.{node_fault, node_head_fault, node_row_fault};
+ghost use Rattle.lgf_file.specs.Reading.{InOrder};
 ghost use Rattle.lgf_file.specs.Readers.{AreNodes, NodesSound, columns_or_label, nodes_read};
 
 use crate::documents::Table;
@@ -61,11 +62,13 @@ impl NodeReader {
     }
 
     /// The table of the rows that were read, and the labels of its nodes.
+    #[tactic(auto, using(crate::proofs::NodeTables::table_read))]
     pub fn finish(self, alloc: Global) -> Result<(Table, LabelTable), AllocError>
         requires { NodesSound self.head self.rows.items self.labels }
         ensures spelled { IfOk result (λ made. (lines : Items Line)
             → Rows lines (nodes_read self.head self.rows.items) → NodesSpell lines made.0) }
-        ensures table { IfOk result (λ made. IsTable made.0) }
+        ensures table { IfOk result (λ made.
+            InOrder node_fault [] (nodes_read self.head self.rows.items) → IsTable made.0) }
         ensures labels { IfOk result (λ made. made.1 ≡ node_labels made.0) }
     {
         let NodeReader { head, rows, labels } = self;

@@ -86,6 +86,7 @@ fn read_arcs(
 }
 
 // The attributes of a section. There are none where it is absent.
+#[tactic(auto, using(crate::proofs::AttributeLists::attributes_right))]
 fn read_attributes(alloc: Global, begun: &Option<Begun<'_>>) -> Result<List<(Text, Text)>, DocFault>
     requires { IfSome begun.now (λ b. b.at + 1 + length b.rest.now < 2 ^ 64) }
     ensures spelled { IfOk result

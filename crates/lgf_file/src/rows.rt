@@ -5,7 +5,7 @@ ghost use Rattle.std.specs.Prelude.{IfSome, IfOk, IfErr, IfNone, OnOk};
 ghost use Rattle.token_text.specs.Lines.{lines_of};
 ghost use Rattle.lgf_file.specs.Sections.{rows_of};
 ghost use Rattle.lgf_file.specs.Rows.{Rows};
-ghost use Rattle.lgf_file.specs.Reading.{Blames};
+ghost use Rattle.lgf_file.specs.Reading.{Blames, InOrder};
 
 use crate::faults::{DocFault, LgfFault, LgfKind};
 use crate::sections::{LineKind, kind_of};
@@ -95,6 +95,7 @@ pub fn read_rows<R: RowReader>(
     requires sound { R.IsSound reader.old }
     requires first { R.read reader.old ≡ [] }
     ensures read { OnOk result (Rows (rows_of number (lines_of bytes.now)) (R.read reader.new)) }
+    ensures fine { OnOk result (InOrder (R.fault (R.labels reader.new)) [] (R.read reader.new)) }
     ensures sound { OnOk result (R.IsSound reader.new) }
     ensures labels { OnOk result (R.labels reader.new ≡ R.labels reader.old) }
     ensures bad { IfErr result

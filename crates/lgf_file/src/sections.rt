@@ -91,15 +91,21 @@ pub struct Sections<'a> {
     pub end: u64,
 }
 
-// The section that was found, or else this one if the line opens it.
-fn found_or<'a>(found: Option<Begun<'a>>, opens: bool, here: Begun<'a>) -> Option<Begun<'a>>
+// The section that was found, or else this one if a line of this kind opens it.
+fn found_or<'a>(
+    found: Option<Begun<'a>>,
+    section: Section,
+    kind: LineKind,
+    here: Begun<'a>,
+) -> Option<Begun<'a>>
     ensures found { option_map (λ b. sought.section_at b.at b.rest.now) result
         ≡ sought.found_or (option_map (λ b. sought.section_at b.at b.rest.now) found.entry)
-        opens (sought.section_at here.entry.at here.entry.rest.now) }
+        (spec.is_opened_by section kind) (sought.section_at here.entry.at here.entry.rest.now) }
     ensures room { (most : ℕ) → IfSome found.entry (λ b. b.at + length b.rest.now ≤ most)
         → here.entry.at + length here.entry.rest.now ≤ most
         → IfSome result (λ b. b.at + length b.rest.now ≤ most) }
 {
+    let opens = is_opened_by(section, kind);
     match found {
         Some(begun) => Some(begun),
         None => { if opens { Some(here) } else { None } }
@@ -128,9 +134,9 @@ pub fn find_sections(bytes: &[u8]) -> Sections<'_>
     'lines: while let Some((line, after)) = next_line(rest) {
         let kind = kind_of(line);
         let here = Begun { at, rest: after };
-        nodes = found_or(nodes, is_opened_by(Section::Nodes, kind), here);
-        arcs = found_or(arcs, is_opened_by(Section::Arcs, kind), here);
-        attributes = found_or(attributes, is_opened_by(Section::Attributes, kind), here);
+        nodes = found_or(nodes, Section::Nodes, kind, here);
+        arcs = found_or(arcs, Section::Arcs, kind, here);
+        attributes = found_or(attributes, Section::Attributes, kind, here);
         at += 1;
         rest = after;
     }

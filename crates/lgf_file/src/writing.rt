@@ -12,8 +12,8 @@ use base_items::List;
 use std::alloc::{AllocError, Global};
 use token_text::{Text, push_token};
 
-// Appends a token and a tab.
-fn push_cell(out: &mut Vec<u8>, cell: &[u8]) -> Result<(), AllocError>
+/// Appends a token and a tab.
+pub fn push_cell(out: &mut Vec<u8>, cell: &[u8]) -> Result<(), AllocError>
     ensures { OnOk result (out.new.items ≡ out.old.items ++ plain.cell_text cell.now) }
 {
     push_token(out, cell)?;
@@ -31,8 +31,8 @@ fn push_cells(out: &mut Vec<u8>, cells: &[Text]) -> Result<(), AllocError>
     Ok(())
 }
 
-// Appends the line of a row.
-fn push_row(out: &mut Vec<u8>, cells: &[Text]) -> Result<(), AllocError>
+/// Appends the line of a row: its tokens, each followed by a tab, and the line end.
+pub fn push_row(out: &mut Vec<u8>, cells: &[Text]) -> Result<(), AllocError>
     ensures { OnOk result (out.new.items ≡ out.old.items ++ ended (plain.row_text cells.now)) }
 {
     push_cells(out, cells)?;
@@ -61,8 +61,9 @@ fn push_nodes(out: &mut Vec<u8>, nodes: &Table) -> Result<(), AllocError>
     push_rows(out, nodes.rows.as_slice())
 }
 
-// Appends the first line of the arcs.
-fn push_head(out: &mut Vec<u8>, columns: &[Text]) -> Result<(), AllocError>
+/// Appends the first line of the arcs: two tabs and the names of the columns as a row, or `-` where
+/// there are none.
+pub fn push_head(out: &mut Vec<u8>, columns: &[Text]) -> Result<(), AllocError>
     ensures { OnOk result (out.new.items ≡ out.old.items ++ ended (plain.head_text columns.now)) }
 {
     if columns.is_empty() {
@@ -73,6 +74,7 @@ fn push_head(out: &mut Vec<u8>, columns: &[Text]) -> Result<(), AllocError>
 }
 
 // The label of a node, by its row.
+#[tactic(auto, using(crate::proofs::NodeLabels::no_label_of_row))]
 fn label_at(nodes: &Table, place: Option<usize>, row: u32) -> &[u8]
     requires valid { documents.IsTable nodes.now }
     requires at_labels { place ≡ documents.label_place nodes.now.columns }
@@ -120,8 +122,8 @@ fn push_arcs(out: &mut Vec<u8>, doc: &Doc) -> Result<(), AllocError>
     Ok(())
 }
 
-// Appends the line of an attribute.
-fn push_attribute(out: &mut Vec<u8>, attribute: &(Text, Text)) -> Result<(), AllocError>
+/// Appends the line of an attribute: its name, a blank and its value.
+pub fn push_attribute(out: &mut Vec<u8>, attribute: &(Text, Text)) -> Result<(), AllocError>
     ensures { OnOk result (out.new.items ≡ out.old.items ++ ended
         (plain.attribute_text attribute.now)) }
 {

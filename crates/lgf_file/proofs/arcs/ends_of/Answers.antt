@@ -1,33 +1,22 @@
-use Rattle.std.proofs.Common.{[], subst, ◌∙◌, arith}
+use Rattle.std.proofs.Common.{[], ◌∙◌, arith}
 use Rattle.std.proofs.lemmas.List.{get_or_read}
 use Rattle.std.proofs.lemmas.Option.{slice_get_within, get_or_from_slice_get}
-use Rattle.token_text.specs.Names.{IsNoneOf}
 use Rattle.lgf_file.proofs.ArcRows.{source_unknown, target_unknown}
 use Rattle.lgf_file.proofs.arcs.ends_of.Goals as goal
 
 pub returns-in_err-from-clause-none : goal.returns-in_err-from-clause-none
 returns-in_err-from-clause-none c =
-    let nodes = c.args.nodes.now in
     let cells = c.args.cells.now in
     let is = get_or_read cells 0 c.index-cells-0.result (omega arith) c.index-cells-0.is [] in
     rw c.from_residual.ensures
-    (source_unknown nodes cells (subst (λ own. IsNoneOf own nodes) is c.in_err-from.ensures))
+    (source_unknown c.args.nodes.now cells (rw is at c.in_err-from.ensures))
 
 pub returns-in_err-to-clause-none : goal.returns-in_err-to-clause-none
 returns-in_err-to-clause-none c =
-    let nodes = c.args.nodes.now in
     let cells = c.args.cells.now in
     let is = get_or_read cells 1 c.index-cells-1.result (omega arith) c.index-cells-1.is [] in
     rw c.from_residual-in_err-to.ensures
-    (target_unknown nodes cells (subst (λ own. IsNoneOf own nodes) is c.in_err-to.ensures))
-
-pub overflow_cast-result : goal.overflow_cast-result
-overflow_cast-result c =
-    omega (arith, slice_get_within c.args.nodes.now c.in_ok-from.from _ c.in_ok-from.ensures)
-
-pub overflow_cast-result-2 : goal.overflow_cast-result-2
-overflow_cast-result-2 c =
-    omega (arith, slice_get_within c.args.nodes.now c.in_ok-to.to _ c.in_ok-to.ensures)
+    (target_unknown c.args.nodes.now cells (rw is at c.in_err-to.ensures))
 
 pub returns-clause-found : goal.returns-clause-found
 returns-clause-found c =

@@ -6,29 +6,27 @@ use Rattle.lgf_file.proofs.reading.read_doc.Goals as goal
 
 pub returns-in_default-clause-refused : goal.returns-in_default-clause-refused
 returns-in_default-clause-refused c =
-    let bytes = c.args.bytes.now in
     let found = c.find_sections-sections.ensures in
     let nodes = rw c.in_default.is at found.nodes in
-    rw c.fault_at.ensures (refused bytes _ (no_nodes (lines_of bytes) _ nodes found.end))
+    rw c.fault_at.ensures
+    (refused c.args.bytes.now _ (no_nodes (lines_of c.args.bytes.now) _ nodes found.end))
 
 pub returns-in_default-arcs-clause-refused : goal.returns-in_default-arcs-clause-refused
 returns-in_default-arcs-clause-refused c =
-    let bytes = c.args.bytes.now in
     let found = c.find_sections-sections.ensures in
     let nodes = rw c.in-Some.is at found.nodes in
     let arcs = rw c.in_default-arcs.is at found.arcs in
     rw c.fault_at-in_default-arcs.ensures
-    (refused bytes _ (no_arcs (lines_of bytes) _ _ nodes arcs found.end))
+    (refused c.args.bytes.now _ (no_arcs (lines_of c.args.bytes.now) _ _ nodes arcs found.end))
 
 pub returns-then-arcs-nodes-clause-refused : goal.returns-then-arcs-nodes-clause-refused
 returns-then-arcs-nodes-clause-refused c =
-    let bytes = c.args.bytes.now in
     let found = c.find_sections-sections.ensures in
     let nodes = rw c.in-Some.is at found.nodes in
     let arcs = rw c.in-Some-arcs.is at found.arcs in
     let before = lt-ltb c.in-Some-arcs.arcs.at c.in-Some.nodes.at c.if-arcs-nodes.true in
     rw c.fault_at-then-arcs-nodes.ensures
-    (refused bytes _ (arcs_first (lines_of bytes) _ _ nodes arcs before))
+    (refused c.args.bytes.now _ (arcs_first (lines_of c.args.bytes.now) _ _ nodes arcs before))
 
 pub returns : goal.returns
 returns c =

@@ -1,4 +1,4 @@
-use Rattle.std.proofs.Common.{◌≡◌, ℕ, ◌+◌, ◌≤◌, Bool, List, ◌∷◌, Option, length, ap, ◌∙◌, arith}
+use Rattle.std.proofs.Common.{◌≡◌, ℕ, ◌+◌, ◌≤◌, List, ◌∷◌, Option, length, ap, ◌∙◌, arith}
 use Rattle.std.specs.Prelude.{option_map, IfSome}
 use Rattle.token_text.specs.Lines.{lines_of}
 use Rattle.lgf_file.specs.Sections.{kind_of, is_opened_by}
@@ -12,21 +12,17 @@ use Rattle.lgf_file.proofs.sections.find_sections.Invariants.{Sought}
 use Rattle.lgf_file.proofs.sections.find_sections.Goals as goal
 
 sought_on : (bytes rest line after : List ℕ) (at : ℕ) (section : Section)
-    (found next : Option Begun)
-    (kind : LineKind) (opens : Bool) → Sought bytes rest at section found
+    (found next : Option Begun) (kind : LineKind) → Sought bytes rest at section found
     → lines_of rest ≡ line ∷ lines_of after → kind ≡ kind_of line
-    → opens ≡ is_opened_by section kind
     → option_map (λ (b : Begun). section_at b.at b.rest.now) next
-    ≡ found_or (option_map (λ (b : Begun). section_at b.at b.rest.now) found) opens
-    (section_at at after)
+    ≡ found_or (option_map (λ (b : Begun). section_at b.at b.rest.now) found)
+    (is_opened_by section kind) (section_at at after)
     → IfSome next (λ b. b.at + length b.rest.now ≤ length bytes)
     → Sought bytes after (at + 1) section next
-sought_on bytes rest line after at section found next kind opens was lines kind_is opens_is next_is
-    room =
-    record {
-      same = rw (next_is, opens_is, kind_is) (was.same ∙ one_on section at _ line rest after lines);
-      room = room;
-    }
+sought_on bytes rest line after at section found next kind was lines kind_is next_is room = record {
+  same = rw (next_is, kind_is) (was.same ∙ one_on section at _ line rest after lines);
+  room = room;
+}
 
 pub lines-preserved : goal.lines-preserved
 lines-preserved c =
@@ -34,20 +30,18 @@ lines-preserved c =
     let was = c.lines.invariant in
     let line = c.in-Some.ensures.line in
     let kind = c.kind_of-kind.ensures in
+    let nodes = c.found_or-nodes.ensures in
+    let arcs = c.found_or-arcs.ensures in
+    let attributes = c.found_or-attributes.ensures in
     let here : c.lines.at + length c.in-Some.after.now ≤ length bytes =
     omega (arith, c.in-Some.ensures.less, was.room) in
     record {
-      nodes =
-          sought_on bytes _ _ _ c.lines.at Nodes _ _ _ _ was.nodes line kind c.is_opened_by.ensures
-          c.found_or-nodes.ensures.found
-          (c.found_or-nodes.ensures.room (length bytes) was.nodes.room here);
-      arcs = sought_on bytes _ _ _ c.lines.at Arcs _ _ _ _ was.arcs line kind
-          c.is_opened_by-in-Some.ensures
-          c.found_or-arcs.ensures.found (c.found_or-arcs.ensures.room (length bytes) was.arcs.room
-          here);
-      attributes = sought_on bytes _ _ _ c.lines.at Attributes _ _ _ _ was.attributes line kind
-          c.is_opened_by-in-Some-2.ensures c.found_or-attributes.ensures.found
-          (c.found_or-attributes.ensures.room (length bytes) was.attributes.room here);
+      nodes = sought_on bytes _ _ _ c.lines.at Nodes _ _ _ was.nodes line kind nodes.found
+          (nodes.room (length bytes) was.nodes.room here);
+      arcs = sought_on bytes _ _ _ c.lines.at Arcs _ _ _ was.arcs line kind arcs.found
+          (arcs.room (length bytes) was.arcs.room here);
+      attributes = sought_on bytes _ _ _ c.lines.at Attributes _ _ _ was.attributes line kind
+          attributes.found (attributes.room (length bytes) was.attributes.room here);
       room = omega (arith, c.in-Some.ensures.less, was.room);
       count = omega (arith, was.count, ap length line);
     }
