@@ -78,7 +78,7 @@ live_told : (g : Digraph) (sort : ItemSort) (id : ℕ) → digraph.IsValid g →
     → is_told g sort id ≡ true
 live_told g sort id valid live = fact_of-has g sort id valid ∙ live_listed g sort id live
 
-live_rises : (g : Digraph) (sort : ItemSort) (id : ℕ) → digraph.IsValid g → IsLive g sort id
+pub live_rises : (g : Digraph) (sort : ItemSort) (id : ℕ) → digraph.IsValid g → IsLive g sort id
     → has (rising g sort) id ≡ true
 live_rises g sort id valid live =
     let below = listed_below g sort id valid (live_listed g sort id live) in
@@ -111,7 +111,7 @@ label_there : (columns cells : Cells) (name : Name)
     → label_in (label ∷ columns) (name ∷ cells) ≡ name
 label_there columns cells name = ap (λ place. cell_at place (name ∷ cells)) (label_first columns)
 
-labels_are : (world : World) (sort : ItemSort) (ids : List ℕ)
+pub labels_are : (world : World) (sort : ItemSort) (ids : List ℕ)
     → labels_of (columns_of (attached world sort)) (map (cells_of world sort) ids)
     ≡ map (label_of world sort) ids
 labels_are world sort [] = refl
