@@ -31,7 +31,7 @@ const NO_MARKS: Marks = Marks {
 /// where there is no filter (`all`).
 #[derive(Drop)]
 pub(crate) struct KeptItems {
-    all: bool,
+    pub(crate) all: bool,
     table: FactTable,
     marks: Vec<Marks>,
     pub(crate) orders: Orders,

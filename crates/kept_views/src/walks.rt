@@ -15,6 +15,13 @@ use crate::nodes::KeptNodes;
 use base_items::Fact;
 
 impl KeptNodes {
+    /// Whether there is no filter, so that each node is shown.
+    pub fn all(&self) -> bool
+        ensures { result ≡ self.now.items.all }
+    {
+        self.items.all
+    }
+
     /// Whether the node is held.
     pub fn has(&self, id: u32) -> bool
         ensures { result ≡ has_id marked_id id (nodes_of self.now) }
@@ -47,6 +54,13 @@ impl KeptNodes {
 }
 
 impl KeptArcs {
+    /// Whether there is no filter, so that each arc is shown.
+    pub fn all(&self) -> bool
+        ensures { result ≡ self.now.items.all }
+    {
+        self.items.all
+    }
+
     /// What is held of an arc; None exactly where it isn't held.
     pub fn fact(&self, id: u32) -> Option<Fact>
         ensures there { IfSome result (λ f. Contains (facts_of_marked (arcs_of self.now)) f

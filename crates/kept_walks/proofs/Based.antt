@@ -1,7 +1,7 @@
 -- What is held of a digraph has its orders and its ends.
-use Rattle.std.proofs.Common.{◌≡◌, ◌≢◌, ℕ, ◌+◌, ◌*◌, ◌<◌, ◌≤◌, nat_le, nat_lt, Bool, true, false}
+use Rattle.std.proofs.Common.{◌≡◌, ◌≢◌, ℕ, ◌+◌, ◌*◌, ◌<◌, ◌≤◌, nat_le, nat_lt, true, false}
 use Rattle.std.proofs.Common.{cond}
-use Rattle.std.proofs.Common.{if◌then◌else◌, IsTrue, List, [], ◌∷◌, map, Option, Some, None, refl}
+use Rattle.std.proofs.Common.{if◌then◌else◌, List, [], ◌∷◌, map, Option, Some, None, refl}
 use Rattle.std.proofs.Common.{sym}
 use Rattle.std.proofs.Common.{ap, subst, ◌∙◌, arith}
 use Rattle.std.specs.Option.{option_map, option_map_or, option_and_then}
@@ -14,7 +14,7 @@ use Rattle.base_items.specs.declared.items.ItemSort.{ItemSort}
 use Rattle.base_items.specs.declared.items.ItemSort.TheVariants as sorts
 use Rattle.plain_digraph.specs.Digraph.{Digraph, Place}
 use Rattle.plain_digraph.specs.Facts.{fact_id}
-use Rattle.plain_digraph.specs.Falling.{by_falling, source_places, target_places}
+use Rattle.plain_digraph.specs.Falling.{by_falling}
 use Rattle.plain_digraph.specs.Items.{facts, fact_of, ids, stamp_of, arc_fact, source_of, target_of}
 use Rattle.plain_digraph.specs.Items.{used_of}
 use Rattle.plain_digraph.specs.Lists.{AllOf}
@@ -22,8 +22,7 @@ use Rattle.plain_digraph.specs.Steps.{placed}
 use Rattle.plain_digraph.specs.Valid.{IsValid, FallBelow}
 use Rattle.plain_digraph.proofs.Bounded.{facts_are_bounded}
 use Rattle.plain_digraph.proofs.SameLists.{lists_are_falling}
-use Rattle.observe_core.proofs.ItemLemmas.{all_more}
-use Rattle.plain_views.specs.Shown.{ShownArc, Shown, shown_arc, base_shown}
+use Rattle.plain_views.specs.Shown.{shown_arc, base_shown}
 use Rattle.kept_views.specs.declared.listing.Listing.{Listing}
 use Rattle.kept_views.specs.declared.listing.Listing.TheVariants.{Whole, BySource, ByTarget}
 use Rattle.kept_views.specs.Order as order
@@ -156,7 +155,7 @@ told id (Some e) (Some a) (Some b) f h =
       ap (λ (x : Fact). x.id) (sym same),
     )
 
-all_told : (P : Fact → Type 0) (told : ℕ → Option Fact)
+pub all_told : (P : Fact → Type 0) (told : ℕ → Option Fact)
     → ((id : ℕ) (f : Fact) → told id ≡ Some f → P f) → (xs : List ℕ)
     → AllOf P (filter_map told xs)
 all_told P told each [] = tt

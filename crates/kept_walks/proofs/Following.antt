@@ -1,56 +1,53 @@
 -- Marks that tell the present values, and what is shown by them.
 use Rattle.std.proofs.Common.{◌≡◌, ℕ, ◌==◌, Bool, true, false, cond, if◌then◌else◌, IsTrue, List}
-use Rattle.std.proofs.Common.{[], ◌∷◌, map, filter, refl, sym, ap, subst, ◌∙◌, arith}
+use Rattle.std.proofs.Common.{[], ◌∷◌, map, filter, refl, ap, ◌∙◌, arith}
 use Rattle.std.specs.Prelude.{◌&&◌}
 use Rattle.std.proofs.lemmas.Grind.{common_steps}
 use Rattle.base_items.specs.declared.items.Fact.{Fact}
-use Rattle.base_items.specs.declared.items.ItemSort.TheVariants as sorts
-use Rattle.plain_digraph.specs.Digraph.{Digraph}
 use Rattle.plain_digraph.specs.Facts.{fact_id}
-use Rattle.plain_digraph.specs.Items.{facts}
 use Rattle.plain_digraph.specs.Lists.{AllOf}
-use Rattle.plain_digraph.specs.Valid.{IsValid}
 use Rattle.observe_core.specs.Held.{Marked}
 use Rattle.observe_core.specs.Items.{has_id}
 use Rattle.observe_core.specs.Seen.{facts_of_marked}
 use Rattle.observe_core.proofs.ItemLemmas.{all_more}
-use Rattle.plain_views.specs.Shown.{ShownArc, Shown, base_shown}
+use Rattle.plain_views.specs.Shown.{ShownArc}
 use Rattle.plain_views.specs.Adaptors.{sub, is_kept}
+use Rattle.kept_views.specs.declared.items.Marks.{Marks}
 use Rattle.kept_views.specs.declared.listing.Listing.{Listing}
 use Rattle.kept_views.specs.declared.listing.Listing.TheVariants.{Whole, BySource, ByTarget}
-use Rattle.kept_views.specs.ItemViews.{marks, marks_in}
+use Rattle.kept_views.specs.ItemViews.{marks_in}
 use Rattle.kept_walks.specs.Stored.{in_falling, arc_shown, stored, is_shown, HasEnds}
 use Rattle.kept_walks.specs.Falling.{all_falling}
-use Rattle.kept_walks.specs.Laws.{AreMarked}
-use Rattle.kept_walks.proofs.Based.{is_base}
+use Rattle.kept_walks.specs.Present.{Present, AreMarked, AreFiltered, marks_at}
 
--- the mark of each item is the value
-marked_as : (k : ℕ → Bool) (items : List Marked) → AreMarked k items → (i : ℕ)
-    → IsTrue (has_id fact_id i (facts_of_marked items)) → is_shown items i ≡ k i
-marked_as k [] all i h = cc
-marked_as k (x ∷ xs) all i h =
+-- the mark of each item is what is said of it
+pub marked_as : (mark : Marks → Bool) (says : ℕ → Bool) (items : List Marked)
+    → AreMarked mark says items → (i : ℕ) → IsTrue (has_id fact_id i (facts_of_marked items))
+    → mark (marks_in i items) ≡ says i
+marked_as mark says [] all i h = cc
+marked_as mark says (x ∷ xs) all i h =
     elim (x.fact.id == i) as (λ b. (x.fact.id == i) ≡ b
     → IsTrue (if b then true else has_id fact_id i (facts_of_marked xs))
-    → (if b then marks x.shown x.forward x.backward else marks_in i xs).shown ≡ k i) [
+    → mark (if b then marks_at x else marks_in i xs) ≡ says i) [
       | true ↦ λ e g.
           let same : x.fact.id ≡ i = grind (arith, common_steps, e) in
-          all.0 ∙ ap k same
-      | false ↦ λ e g. marked_as k xs all.1 i g
+          all.0 ∙ ap says same
+      | false ↦ λ e g. marked_as mark says xs all.1 i g
     ] refl h
 
-same_filter : {X : Type 0} (p q : X → Bool) (xs : List X) → AllOf (λ x. p x ≡ q x) xs
+pub same_filter : {X : Type 0} (p q : X → Bool) (xs : List X) → AllOf (λ x. p x ≡ q x) xs
     → filter p xs ≡ filter q xs
 same_filter p q [] all = refl
 same_filter p q (x ∷ xs) all =
     let r = same_filter p q xs all.1 in
     λ i. cond (all.0 i) (x ∷ r i) (r i)
 
-all_map : {X Y : Type 0} (P : Y → Type 0) (f : X → Y) (xs : List X) → AllOf (λ x. P (f x)) xs
+pub all_map : {X Y : Type 0} (P : Y → Type 0) (f : X → Y) (xs : List X) → AllOf (λ x. P (f x)) xs
     → AllOf P (map f xs)
 all_map P f [] all = tt
 all_map P f (x ∷ xs) all = (all.0, all_map P f xs all.1)
 
-all_own : (P : Fact → Type 0) (fs : List Fact)
+pub all_own : (P : Fact → Type 0) (fs : List Fact)
     → ((f : Fact) → IsTrue (has_id fact_id f.id fs) → P f) → AllOf P fs
 all_own P [] each = tt
 all_own P (f ∷ fs) each =
@@ -63,16 +60,25 @@ all_own P (f ∷ fs) each =
     later true b h = refl
     later false b h = h
 
-module _ (nodes arcs : List Marked) (k h : ℕ → Bool) (ends : HasEnds nodes arcs)
-    (nodes_marked : AreMarked k nodes) (arcs_marked : AreMarked h arcs) where
+-- of the arcs that are held, in the order of a listing
+pub arcs_own : (l : Listing) (P : ShownArc → Type 0) (fs : List Fact)
+    → AllOf (λ f. P (arc_shown f)) fs → AllOf P (map arc_shown (in_falling l fs))
+arcs_own l P fs all =
+    all_map P arc_shown (in_falling l fs) (all_falling l (λ f. P (arc_shown f)) fs all)
+
+module _ (v : Present) (nodes arcs : List Marked) (ends : HasEnds nodes arcs)
+    (filtered : AreFiltered v nodes arcs) where
   abbrev ns : List Fact
   ns = facts_of_marked nodes
 
   abbrev fs : List Fact
   fs = facts_of_marked arcs
 
-  nodes_as : (i : ℕ) → IsTrue (has_id fact_id i ns) → is_shown nodes i ≡ k i
-  nodes_as = marked_as k nodes nodes_marked
+  nodes_as : (i : ℕ) → IsTrue (has_id fact_id i ns) → is_shown nodes i ≡ v.keeps_node i
+  nodes_as = marked_as (λ m. m.shown) v.keeps_node nodes filtered.nodes
+
+  arcs_as : (i : ℕ) → IsTrue (has_id fact_id i fs) → is_shown arcs i ≡ v.keeps_arc i
+  arcs_as = marked_as (λ m. m.shown) v.keeps_arc arcs filtered.arcs
 
   ends_all : (xs : List Marked) → AllOf (λ (a : Marked). IsTrue (has_id fact_id a.fact.from ns)
       × IsTrue (has_id fact_id a.fact.to ns)) xs
@@ -86,10 +92,10 @@ module _ (nodes arcs : List Marked) (k h : ℕ → Bool) (ends : HasEnds nodes a
   both_all P Q [] p q = tt
   both_all P Q (x ∷ xs) p q = ((p.0, q.0), both_all P Q xs p.1 q.1)
 
-  abbrev Alike : Fact → Type 0
-  Alike f = is_kept (is_shown nodes) (is_shown arcs) (arc_shown f) ≡ is_kept k h (arc_shown f)
+  abbrev Alike : ShownArc → Type 0
+  Alike a = is_kept (is_shown nodes) (is_shown arcs) a ≡ is_kept v.keeps_node v.keeps_arc a
 
-  arcs_alike : AllOf Alike fs
+  arcs_alike : AllOf (λ f. Alike (arc_shown f)) fs
   arcs_alike =
       all_more (λ f e.
       let a = e.0 in
@@ -97,35 +103,25 @@ module _ (nodes arcs : List Marked) (k h : ℕ → Bool) (ends : HasEnds nodes a
       let to = nodes_as f.to e.1.1 in
       λ i. a i && from i && to i)
       fs
-      (both_all (λ f. is_shown arcs f.id ≡ h f.id)
+      (both_all (λ f. is_shown arcs f.id ≡ v.keeps_arc f.id)
       (λ f. IsTrue (has_id fact_id f.from ns) × IsTrue (has_id fact_id f.to ns)) fs
-      (all_own (λ f. is_shown arcs f.id ≡ h f.id) fs (λ f t. marked_as h arcs arcs_marked f.id t))
+      (all_own (λ f. is_shown arcs f.id ≡ v.keeps_arc f.id) fs (λ f t. arcs_as f.id t))
       (ends_all arcs ends))
 
   arcs_by : (l : Listing)
       → filter (is_kept (is_shown nodes) (is_shown arcs)) (map arc_shown (in_falling l fs))
-      ≡ filter (is_kept k h) (map arc_shown (in_falling l fs))
+      ≡ filter (is_kept v.keeps_node v.keeps_arc) (map arc_shown (in_falling l fs))
   arcs_by l =
-      same_filter (is_kept (is_shown nodes) (is_shown arcs)) (is_kept k h)
-      (map arc_shown (in_falling l fs))
-      (all_map (λ (a : ShownArc). is_kept (is_shown nodes) (is_shown arcs) a ≡ is_kept k h a)
-      arc_shown (in_falling l fs) (all_falling l Alike fs arcs_alike))
+      same_filter (is_kept (is_shown nodes) (is_shown arcs)) (is_kept v.keeps_node v.keeps_arc)
+      (map arc_shown (in_falling l fs)) (arcs_own l Alike fs arcs_alike)
 
-  pub sub_by_marks : sub (is_shown nodes) (is_shown arcs) (stored ns fs) ≡ sub k h (stored ns fs)
+  pub sub_by_marks : sub (is_shown nodes) (is_shown arcs) (stored ns fs)
+      ≡ sub v.keeps_node v.keeps_arc (stored ns fs)
   sub_by_marks =
-      let one = same_filter (is_shown nodes) k (map fact_id (in_falling Whole ns))
-      (all_map (λ i. is_shown nodes i ≡ k i) fact_id (in_falling Whole ns)
-      (all_falling Whole (λ f. is_shown nodes f.id ≡ k f.id) ns
-      (all_own (λ f. is_shown nodes f.id ≡ k f.id) ns (λ f t. nodes_as f.id t)))) in
+      let one = same_filter (is_shown nodes) v.keeps_node (map fact_id (in_falling Whole ns))
+      (all_map (λ i. is_shown nodes i ≡ v.keeps_node i) fact_id (in_falling Whole ns)
+      (all_falling Whole (λ f. is_shown nodes f.id ≡ v.keeps_node f.id) ns
+      (all_own (λ f. is_shown nodes f.id ≡ v.keeps_node f.id) ns (λ f t. nodes_as f.id t)))) in
       let two = arcs_by BySource in
       let three = arcs_by ByTarget in
       λ i. record { nodes = one i; by_source = two i; by_target = three i }
-
-pub sub_follows : (g : Digraph) → IsValid g → (nodes arcs : List Marked)
-    → facts_of_marked nodes ≡ facts g sorts.Node → facts_of_marked arcs ≡ facts g sorts.Arc
-    → HasEnds nodes arcs → (k h : ℕ → Bool) → AreMarked k nodes → AreMarked h arcs
-    → sub (is_shown nodes) (is_shown arcs) (stored (facts_of_marked nodes) (facts_of_marked arcs))
-    ≡ sub k h (base_shown g)
-sub_follows g valid nodes arcs one two ends k h nodes_marked arcs_marked =
-    sub_by_marks nodes arcs k h ends nodes_marked arcs_marked
-    ∙ (λ i. sub k h (stored (one i) (two i))) ∙ ap (sub k h) (is_base g valid)

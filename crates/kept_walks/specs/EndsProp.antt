@@ -1,11 +1,7 @@
 -- That all arcs have their ends has one proof at most.
-use Rattle.std.specs.Prelude.{IsTrue, List, [], ◌∷◌}
+use Rattle.std.specs.Prelude.{List, [], ◌∷◌}
 use Rattle.std.proofs.Props as below
-use Rattle.plain_digraph.specs.Facts.{fact_id}
-use Rattle.plain_digraph.specs.Lists.{AllOf}
 use Rattle.observe_core.specs.Held.{Marked}
-use Rattle.observe_core.specs.Items.{has_id}
-use Rattle.observe_core.specs.Seen.{facts_of_marked}
 use Rattle.kept_views.specs.declared.nodes.KeptNodes.{KeptNodes}
 use Rattle.kept_views.specs.declared.arcs.KeptArcs.{KeptArcs}
 use Rattle.kept_views.specs.Views.{nodes_of, arcs_of}

@@ -1,12 +1,11 @@
 -- Items that fall, and those of one owner among them.
-use Rattle.std.proofs.Common.{◌≡◌, ◌≢◌, ℕ, ◌+◌, ◌<◌, ◌≤◌, nat_le, ◌==◌, Bool, true, false, cond}
-use Rattle.std.proofs.Common.{if◌then◌else◌, IsTrue, List, [], ◌∷◌, map, filter, refl, sym, ap, ◌∙◌}
+use Rattle.std.proofs.Common.{◌≡◌, ℕ, ◌≤◌, nat_le, ◌==◌, Bool, true, false, cond}
+use Rattle.std.proofs.Common.{if◌then◌else◌, List, [], ◌∷◌, map, filter, refl, sym, ap, ◌∙◌}
 use Rattle.std.proofs.Common.{arith}
 use Rattle.std.proofs.lemmas.Grind.{common_steps}
 use Rattle.std.specs.Prelude.{◌||◌}
 use Rattle.std.specs.List.{list_any}
 use Rattle.base_items.specs.declared.items.Fact.{Fact}
-use Rattle.plain_digraph.specs.Facts.{fact_id}
 use Rattle.plain_digraph.specs.Lists.{AllOf}
 use Rattle.observe_core.proofs.ItemLemmas.{all_more}
 use Rattle.plain_views.specs.Shown.{ShownArc}
@@ -14,6 +13,14 @@ use Rattle.kept_views.specs.declared.listing.Listing.{Listing}
 use Rattle.kept_views.specs.declared.listing.Listing.TheVariants.{Whole}
 use Rattle.kept_views.specs.Order.{owner_of, rank, put_falling, items_at}
 use Rattle.kept_walks.specs.Stored.{in_falling, arc_shown}
+
+pub all_kept : {X : Type 0} (P : X → Type 0) (k : X → Bool) (xs : List X) → AllOf P xs
+    → AllOf P (filter k xs)
+all_kept P k [] all = tt
+all_kept P k (x ∷ xs) all =
+    let r = all_kept P k xs all.1 in
+    elim (k x) as (λ b. AllOf P (cond b (x ∷ filter k xs) (filter k xs)))
+    [ true ↦ (all.0, r) | false ↦ r ]
 
 module _ (l : Listing) where
   abbrev Low : Fact → Fact → Type 0
@@ -56,14 +63,6 @@ module _ (l : Listing) where
   put_front f (y ∷ ys) low = let h = low.0 in
       let t : nat_le (rank l y) (rank l f) ≡ true = grind (arith, common_steps, h) in
       ap (λ b. if b then f ∷ y ∷ ys else y ∷ put_falling l f ys) t
-
-  all_kept : (P : Fact → Type 0) (k : Fact → Bool) (xs : List Fact) → AllOf P xs
-      → AllOf P (filter k xs)
-  all_kept P k [] all = tt
-  all_kept P k (x ∷ xs) all =
-      let r = all_kept P k xs all.1 in
-      elim (k x) as (λ b. AllOf P (cond b (x ∷ filter k xs) (filter k xs)))
-      [ true ↦ (all.0, r) | false ↦ r ]
 
   kept_put : (k : Fact → Bool) (f : Fact) (xs : List Fact) → Falls xs
       → filter k (put_falling l f xs)

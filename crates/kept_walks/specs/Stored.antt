@@ -10,7 +10,6 @@ use Rattle.observe_core.specs.Items.{has_id}
 use Rattle.observe_core.specs.Seen.{facts_of_marked}
 use Rattle.plain_views.specs.Shown.{Shown, ShownArc}
 use Rattle.plain_views.specs.Adaptors.{sub, residual}
-use Rattle.kept_views.specs.declared.items.Marks.{Marks}
 use Rattle.kept_views.specs.declared.listing.Listing.{Listing}
 use Rattle.kept_views.specs.declared.listing.Listing.TheVariants.{Whole, BySource, ByTarget}
 use Rattle.kept_views.specs.Order.{put_falling}

@@ -1,5 +1,5 @@
 -- All that two observers hold is a shown digraph.
-use Rattle.std.proofs.Common.{◌≡◌, ◌≢◌, ℕ, ◌+◌, ◌<◌, ◌≤◌, nat_le, ◌==◌, Bool, true, false, cond}
+use Rattle.std.proofs.Common.{◌≡◌, ℕ, ◌<◌, ◌==◌, Bool, true, false, cond}
 use Rattle.std.proofs.Common.{if◌then◌else◌, IsTrue, List, [], ◌∷◌, map, filter, refl, sym, ap}
 use Rattle.std.proofs.Common.{subst}
 use Rattle.std.proofs.Common.{◌∙◌, arith}
@@ -12,9 +12,9 @@ use Rattle.linked_lists.specs.Links.{AreApart}
 use Rattle.plain_digraph.specs.Facts.{fact_id}
 use Rattle.plain_digraph.specs.Lists.{AllOf, has}
 use Rattle.observe_core.specs.Facts.{AllInBounds, HasDistinctIds}
-use Rattle.observe_core.specs.Items.{has_id, rises_from, HoldsOnly}
-use Rattle.observe_core.proofs.ItemLemmas.{all_more, holds_only, contains-has, lacks-not_has}
-use Rattle.plain_views.specs.Shown.{ShownArc, Shown, End, IsShown, AreBelow, once, arc_ids, ids_at}
+use Rattle.observe_core.specs.Items.{has_id, rises_from}
+use Rattle.observe_core.proofs.ItemLemmas.{holds_only, contains-has, lacks-not_has}
+use Rattle.plain_views.specs.Shown.{ShownArc, End, IsShown, AreBelow, once, arc_ids, ids_at}
 use Rattle.plain_views.specs.Shown.{end_in, source, target, has_ends, has_arc}
 use Rattle.kept_views.specs.declared.listing.Listing.{Listing}
 use Rattle.kept_views.specs.declared.listing.Listing.TheVariants.{Whole, BySource, ByTarget}
@@ -31,7 +31,7 @@ use Rattle.kept_views.specs.declared.arcs.KeptArcs.{KeptArcs}
 use Rattle.kept_views.specs.Sound.{marked-facts}
 use Rattle.kept_views.specs.Views.{nodes_of, arcs_of}
 use Rattle.kept_walks.specs.Stored.{in_falling, arc_shown, stored, shows_all, HasEnds}
-use Rattle.kept_walks.specs.Falling.{kept_at, any_falling, one_list, all_falling}
+use Rattle.kept_walks.specs.Falling.{kept_at, any_falling, all_falling}
 
 -- ---- ids
 

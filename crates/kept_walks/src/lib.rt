@@ -7,6 +7,6 @@ mod marked;
 mod stored;
 
 pub use kept::Kept;
-pub use laws::{kept_sub_follows, stored_is_base};
+pub use laws::{ends_are_held, kept_follows, marks_stay, placing_marks, stored_is_base};
 pub use marked::{RoomMarks, ShownMarks};
 pub use stored::Stored;

@@ -1,8 +1,7 @@
 use Rattle.std.proofs.Common.{◌∙◌, sym}
 use Rattle.plain_digraph.specs.Lists.{has}
 use Rattle.plain_views.specs.Shown.{has_arc}
-use Rattle.observe_core.specs.Seen.{facts_of_marked}
-use Rattle.kept_views.specs.Views.{nodes_of, arcs_of}
+use Rattle.kept_views.specs.Views.{nodes_of}
 use Rattle.kept_walks.specs.Stored.{shows_all}
 use Rattle.kept_walks.proofs.Lookups.{node_has, admits_arc}
 use Rattle.kept_walks.proofs.kept.part.Goals as goal

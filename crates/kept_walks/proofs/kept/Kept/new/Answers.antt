@@ -1,4 +1,4 @@
-use Rattle.std.proofs.Common.{◌≡◌, ◌∙◌, true, sym, ap, subst}
+use Rattle.std.proofs.Common.{◌∙◌, sym, ap}
 use Rattle.plain_views.specs.Shown.{Shown, has_arc}
 use Rattle.plain_views.specs.Adaptors.{sub, residual}
 use Rattle.observe_core.specs.declared.kinds.KeptShape.{KeptShape}

@@ -1,4 +1,4 @@
-use Rattle.std.proofs.Common.{◌∙◌, ◌≡◌, true, false, sym, ap, subst}
+use Rattle.std.proofs.Common.{◌∙◌, ◌≡◌, true, false, sym, ap}
 use Rattle.plain_digraph.specs.Facts.{fact_id}
 use Rattle.plain_views.specs.Shown.{source, target, end_in}
 use Rattle.observe_core.specs.Seen.{facts_of_marked}
