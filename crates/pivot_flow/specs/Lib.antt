@@ -1,0 +1,10 @@
+pub mod Tree
+pub mod Look
+pub mod Send
+pub mod Turn
+pub mod Kids
+pub mod Enter
+pub mod Spread
+pub mod Stroll
+pub mod State
+pub mod Open
