@@ -1,66 +1,320 @@
--- The names of columns, with that of the labels in front.
-use Rattle.std.proofs.Common.{◌≡◌, ℕ, suc, false, List, [], ◌∷◌, ◌++◌, take, drop, drop-cons, Option, Some, None, refl, sym, ap, ◌∙◌}
-use Rattle.std.specs.Prelude.{slice_index_or}
-use Rattle.std.specs.Str.{bytes_eq}
-use Rattle.std.proofs.lemmas.Bool.{or_parts, or_from}
-use Rattle.std.proofs.lemmas.List.{take-append-drop}
-use Rattle.std.proofs.lemmas.List.Folds.{list_any-append}
-use Rattle.std.proofs.lemmas.List.Quantifiers.{position-Some}
-use Rattle.std.proofs.lemmas.Slice.Eq.{bytes_eq-Decides}
-use Rattle.token_text.specs.Names.{is_among, has_twice}
-use Rattle.lgf_file.specs.Rows.{Cells}
-use Rattle.lgf_file.specs.Documents.{label, dash, AreColumns}
-use Rattle.lgf_file.proofs.NameLists.{twice_front}
-use Rattle.lgf_file.proofs.ArcRows.{none_labelled}
-use Rattle.plain_machine.specs.World.{label_column, item_texts}
+-- Entries that come, go and change, as columns.
+use Rattle.std.proofs.Common.{◌≡◌, ℕ, Bool, true, false, cond, List, [], ◌∷◌, map, Option, Some}
+use Rattle.std.proofs.Common.{None}
+use Rattle.std.proofs.Common.{refl, sym, ap, ◌∙◌, subst, inl, inr, arith}
+use Rattle.std.specs.Prelude.{IsTrue, ◌==◌, nat_le, option_map}
+use Rattle.std.specs.List.{filter_map, cons_option}
+use Rattle.std.specs.Ordering.{nat_cmp, eq_by_cmp}
+use Rattle.std.specs.Cmp.{nat_cmp_total}
+use Rattle.std.specs.FinMap as fin
+use Rattle.std.proofs.lemmas.Bool.{cases_eq, eq-eqb, ne_eqb, true≢false}
+use Rattle.std.proofs.lemmas.Grind.{common_steps}
+use Rattle.plain_digraph.specs.Rising.{with_item, without_item, swapped}
+use Rattle.plain_digraph.proofs.Keys.{ties_same, ties_other}
+use Rattle.observe_core.specs.Held.{Entry, entry_id}
+use Rattle.observe_core.specs.Items.{Lacks, has_id}
+use Rattle.plain_world.specs.Tables.{Name}
+use Rattle.plain_world.specs.World.{Column}
+use Rattle.desk_world.specs.Columns.{column, labelled}
 
--- A name that is none of some isn't one of fewer.
-fewer_apart : (name : List ℕ) (front : Cells) (middle : List ℕ) (back : Cells)
-    → is_among name (front ++ middle ∷ back) ≡ false → is_among name (front ++ back) ≡ false
-fewer_apart name front middle back none =
-    let parts = or_parts (is_among name front) (is_among name (middle ∷ back)) (sym (list_any-append (bytes_eq name) front (middle ∷ back)) ∙ none) in
-    let behind = or_parts (bytes_eq name middle) (is_among name back) parts.1 in
-    list_any-append (bytes_eq name) front back ∙ or_from (is_among name front) (is_among name back) parts.0 behind.1
+abbrev pub ties : ℕ → ℕ → Bool
+ties m n = eq_by_cmp nat_cmp m n
 
--- Names that differ do so without one of them.
-fewer_differ : (front : Cells) (middle : List ℕ) (back : Cells) → has_twice (front ++ middle ∷ back) ≡ false
-    → has_twice (front ++ back) ≡ false
-fewer_differ [] middle back differ = (or_parts (is_among middle back) (has_twice back) differ).1
-fewer_differ (first ∷ front) middle back differ =
-    let parts = or_parts (is_among first (front ++ middle ∷ back)) (has_twice (front ++ middle ∷ back)) differ in
-    or_from (is_among first (front ++ back)) (has_twice (front ++ back))
-    (fewer_apart first front middle back parts.0) (fewer_differ front middle back parts.1)
+none_either : {X : Type 0} (o : Option X) (t : Bool) → o ≡ None → o ≡ cond t None o
+none_either o true none = none
+none_either o false none = refl
 
--- One of the names is none of the others.
-other_names : (front : Cells) (middle : List ℕ) (back : Cells) → has_twice (front ++ middle ∷ back) ≡ false
-    → is_among middle (front ++ back) ≡ false
-other_names front middle back differ =
-    list_any-append (bytes_eq middle) front back
-    ∙ or_from (is_among middle front) (is_among middle back) (twice_front front middle back differ) (behind front differ)
+-- of two different keys one may be asked first
+pub either_first : {X : Type 0} (q a b : ℕ) (x y z : X) → (a ≡ b → ⊥)
+    → cond (ties q a) x (cond (ties q b) y z) ≡ cond (ties q b) y (cond (ties q a) x z)
+either_first q a b x y z apart = elim (cases_eq q a) [
+  | inl same ↦
+      ap (λ t. cond t x (cond (ties q b) y z)) (ties_same q a same)
+      ∙ sym (ap (λ t. cond t y (cond (ties q a) x z)) (ties_other q b (λ e. apart (sym same ∙ e)))
+      ∙ ap (λ t. cond t x z) (ties_same q a same))
+  | inr other ↦
+      ap (λ t. cond t x (cond (ties q b) y z)) (ties_other q a other)
+      ∙ sym (ap (λ t. cond (ties q b) y (cond t x z)) (ties_other q a other))
+]
+
+module _ {X : Type 0} where
+  abbrev pub pairs : List (Entry X) → List (ℕ × X)
+  pairs es = map (λ (e : Entry X). (e.id, e.value)) es
+
+  -- the value of the first entry of the id
+  abbrev pub value_at : ℕ → List (Entry X) → Option X
+  value_at q es = fin.find nat_cmp q (pairs es)
+
+  pub get_column : (es : List (Entry X)) (q : ℕ) → fin.get (column es) q ≡ value_at q es
+  get_column es q = fin.get-from_entries nat_cmp_total (pairs es) q
+
+  at_with : (e : Entry X) (es : List (Entry X)) (q : ℕ) → Lacks entry_id e.id es
+      → value_at q (with_item entry_id e es) ≡ cond (ties q e.id) (Some e.value) (value_at q es)
+  at_with e [] q lacks = refl
+  at_with e (y ∷ ys) q lacks =
+      let rest = at_with e ys q lacks.1 in
+      elim (nat_le e.id y.id) as (λ b.
+      value_at q (cond b (e ∷ y ∷ ys) (y ∷ with_item entry_id e ys))
+      ≡ cond (ties q e.id) (Some e.value) (value_at q (y ∷ ys))) [
+        | true ↦ refl
+        | false ↦
+            ap (cond (ties q y.id) (Some y.value)) rest
+            ∙ either_first q y.id e.id (Some y.value) (Some e.value) (value_at q ys) lacks.0
+      ]
+
+  at_without : (id : ℕ) (es : List (Entry X)) (q : ℕ)
+      → value_at q (without_item entry_id id es) ≡ cond (ties q id) None (value_at q es)
+  at_without id [] q = none_either None (ties q id) refl
+  at_without id (y ∷ ys) q =
+      let rest = at_without id ys q in
+      elim (cases_eq y.id id) [
+        | inl same ↦
+            ap (λ b. value_at q (cond b (without_item entry_id id ys)
+            (y ∷ without_item entry_id id ys))) (eq-eqb y.id id same)
+            ∙ rest
+            ∙ sym (ap (λ i. cond (ties q id) None (cond (ties q i) (Some y.value) (value_at q ys)))
+            same
+            ∙ elim (ties q id) as (λ t. cond t None (cond t (Some y.value) (value_at q ys))
+            ≡ cond t None (value_at q ys)) [
+              | true ↦ refl
+              | false ↦ refl
+            ])
+        | inr other ↦
+            ap (λ b. value_at q (cond b (without_item entry_id id ys)
+            (y ∷ without_item entry_id id ys))) (ne_eqb y.id id other)
+            ∙ ap (cond (ties q y.id) (Some y.value)) rest
+            ∙ either_first q y.id id (Some y.value) None (value_at q ys) other
+      ]
+
+  at_swapped : (e : Entry X) (es : List (Entry X)) (q : ℕ) → IsTrue (has_id entry_id e.id es)
+      → value_at q (swapped entry_id e es) ≡ cond (ties q e.id) (Some e.value) (value_at q es)
+  at_swapped e es q has = elim (cases_eq q e.id) [
+    | inl same ↦
+        ap (λ n. value_at n (swapped entry_id e es)) same ∙ here es has
+        ∙ sym (ap (λ t. cond t (Some e.value) (value_at q es)) (ties_same q e.id same))
+    | inr other ↦
+        there q es other
+        ∙ sym (ap (λ t. cond t (Some e.value) (value_at q es)) (ties_other q e.id other))
+  ]
+    where
+      there : (q : ℕ) (es : List (Entry X)) → (q ≡ e.id → ⊥)
+          → value_at q (swapped entry_id e es) ≡ value_at q es
+      there q [] other = refl
+      there q (y ∷ ys) other =
+          let rest = there q ys other in
+          elim (cases_eq y.id e.id) [
+            | inl same ↦
+                ap (λ b. value_at q (cond b e y ∷ swapped entry_id e ys)) (eq-eqb y.id e.id same)
+                ∙ ap (λ t. cond t (Some e.value) (value_at q (swapped entry_id e ys)))
+                (ties_other q e.id other)
+                ∙ rest
+                ∙ sym (ap (λ t. cond t (Some y.value) (value_at q ys))
+                (ties_other q y.id (λ is. other (is ∙ same))))
+            | inr apart ↦
+                ap (λ b. value_at q (cond b e y ∷ swapped entry_id e ys)) (ne_eqb y.id e.id apart)
+                ∙ ap (cond (ties q y.id) (Some y.value)) rest
+          ]
+
+      here : (es : List (Entry X)) → IsTrue (has_id entry_id e.id es)
+          → value_at e.id (swapped entry_id e es) ≡ Some e.value
+      here [] has = absurd (true≢false (sym has))
+      here (y ∷ ys) has = elim (cases_eq y.id e.id) [
+        | inl same ↦
+            ap (λ b. value_at e.id (cond b e y ∷ swapped entry_id e ys)) (eq-eqb y.id e.id same)
+            ∙ ap (λ t. cond t (Some e.value) (value_at e.id (swapped entry_id e ys)))
+            (ties_same e.id e.id refl)
+        | inr apart ↦
+            let more : IsTrue (has_id entry_id e.id ys) =
+            subst (λ b. IsTrue (cond b true (has_id entry_id e.id ys))) (ne_eqb y.id e.id apart) has
+            in
+            ap (λ b. value_at e.id (cond b e y ∷ swapped entry_id e ys)) (ne_eqb y.id e.id apart)
+            ∙ ap (λ t. cond t (Some y.value) (value_at e.id (swapped entry_id e ys)))
+            (ties_other e.id y.id (λ is. apart (sym is)))
+            ∙ here ys more
+      ]
+
+  pub same_column : (m n : Column X) → ((q : ℕ) → fin.get m q ≡ fin.get n q) → m ≡ n
+  same_column m n is = fin.same_map nat_cmp_total fin.nat_cmp-IsAntisymmetric m n is
+
+  pub column_with : (e : Entry X) (es : List (Entry X)) → Lacks entry_id e.id es
+      → column (with_item entry_id e es) ≡ fin.insert (column es) e.id e.value
+  column_with e es lacks =
+      same_column (column (with_item entry_id e es)) (fin.insert (column es) e.id e.value)
+      (λ q. get_column (with_item entry_id e es) q ∙ at_with e es q lacks
+      ∙ ap (cond (ties q e.id) (Some e.value)) (sym (get_column es q))
+      ∙ sym (fin.get-insert nat_cmp_total (column es) e.id e.value q))
+
+  pub column_without : (id : ℕ) (es : List (Entry X))
+      → column (without_item entry_id id es) ≡ fin.remove (column es) id
+  column_without id es =
+      same_column (column (without_item entry_id id es)) (fin.remove (column es) id)
+      (λ q. get_column (without_item entry_id id es) q ∙ at_without id es q
+      ∙ ap (cond (ties q id) None) (sym (get_column es q))
+      ∙ sym (fin.get-remove nat_cmp_total (column es) id q))
+
+  pub column_swapped : (e : Entry X) (es : List (Entry X)) → IsTrue (has_id entry_id e.id es)
+      → column (swapped entry_id e es) ≡ fin.insert (column es) e.id e.value
+  column_swapped e es has =
+      same_column (column (swapped entry_id e es)) (fin.insert (column es) e.id e.value)
+      (λ q. get_column (swapped entry_id e es) q ∙ at_swapped e es q has
+      ∙ ap (cond (ties q e.id) (Some e.value)) (sym (get_column es q))
+      ∙ sym (fin.get-insert nat_cmp_total (column es) e.id e.value q))
+
+-- ---- labels
+
+abbrev pub Named : Type 0
+Named = Entry (Option Name)
+
+abbrev pub pairs_named : List Named → List (ℕ × Name)
+pairs_named es =
+    filter_map (λ (e : Named). option_map (λ (name : Name). (e.id, name)) e.value) es
+
+-- the label of the first entry of the id that has one
+abbrev pub name_at : ℕ → List Named → Option Name
+name_at q es = fin.find nat_cmp q (pairs_named es)
+
+pub get_labelled : (es : List Named) (q : ℕ) → fin.get (labelled es) q ≡ name_at q es
+get_labelled es q = fin.get-from_entries nat_cmp_total (pairs_named es) q
+
+abbrev pub put_pair : ℕ → Option Name → List (ℕ × Name) → List (ℕ × Name)
+put_pair id v rest = cons_option (option_map (λ (name : Name). (id, name)) v) rest
+
+-- what is found behind an entry of another id
+pub past : (q id : ℕ) (v : Option Name) (rest : List (ℕ × Name)) → (q ≡ id → ⊥)
+    → fin.find nat_cmp q (put_pair id v rest) ≡ fin.find nat_cmp q rest
+past q id None rest other = refl
+past q id (Some name) rest other =
+    ap (λ t. cond t (Some name) (fin.find nat_cmp q rest)) (ties_other q id other)
+
+both : (q id : ℕ) (v : Option Name) (xs ys : List (ℕ × Name))
+    → fin.find nat_cmp q xs ≡ fin.find nat_cmp q ys
+    → fin.find nat_cmp q (put_pair id v xs) ≡ fin.find nat_cmp q (put_pair id v ys)
+both q id None xs ys same = same
+both q id (Some name) xs ys same = ap (cond (ties q id) (Some name)) same
+
+-- an item without label changes no label
+pub labels_with : (id : ℕ) (es : List Named)
+    → labelled (with_item entry_id (record { id = id; value = None }) es) ≡ labelled es
+labels_with id es = ap fin.from_entries (same es)
   where
-    behind : (front : Cells) → has_twice (front ++ middle ∷ back) ≡ false → is_among middle back ≡ false
-    behind [] apart = (or_parts (is_among middle back) (has_twice back) apart).0
-    behind (first ∷ front) apart = behind front (or_parts (is_among first (front ++ middle ∷ back)) (has_twice (front ++ middle ∷ back)) apart).1
+    same : (es : List Named)
+        → pairs_named (with_item entry_id (record { id = id; value = None }) es) ≡ pairs_named es
+    same [] = refl
+    same (y ∷ ys) =
+        let rest = same ys in
+        elim (nat_le id y.id) as
+        (λ b. pairs_named (cond b ((record { id = id; value = None }) ∷ y ∷ ys)
+        (y ∷ with_item entry_id (record { id = id; value = None }) ys)) ≡ pairs_named (y ∷ ys)) [
+          | true ↦ refl
+          | false ↦ ap (put_pair y.id y.value) rest
+        ]
 
--- The name label goes in front of the others.
-module _ (columns : Cells) (are : AreColumns columns) where
-  pub label_in_front : (place : Option ℕ) → label_column columns ≡ place → AreColumns (label ∷ item_texts place columns)
-  label_in_front None is = record {
-    differ = or_from (is_among label columns) (has_twice columns) (none_labelled columns is) are.differ;
-    no_dash = or_from (bytes_eq dash label) (is_among dash columns) refl are.no_dash;
-  }
-  label_in_front (Some place) is =
-      let at = position-Some (bytes_eq label) columns place [] is in
-      let front = take place columns in
-      let back = drop (suc place) columns in
-      let named : slice_index_or columns place [] ≡ label = sym ((bytes_eq-Decides label (slice_index_or columns place [])).0 at.1) in
-      let split : columns ≡ front ++ label ∷ back =
-      sym (take-append-drop place columns) ∙ ap (λ own. front ++ own) (drop-cons columns place [] at.0)
-      ∙ ap (λ name. front ++ name ∷ back) named in
-      let differ = sym (ap has_twice split) ∙ are.differ in
-      record {
-        differ = or_from (is_among label (front ++ back)) (has_twice (front ++ back))
-            (other_names front label back differ) (fewer_differ front label back differ);
-        no_dash = or_from (bytes_eq dash label) (is_among dash (front ++ back)) refl
-            (fewer_apart dash front label back (sym (ap (is_among dash) split) ∙ are.no_dash));
-      }
+name_without : (id : ℕ) (es : List Named) (q : ℕ)
+    → name_at q (without_item entry_id id es) ≡ cond (ties q id) None (name_at q es)
+name_without id [] q = none_either None (ties q id) refl
+name_without id (y ∷ ys) q =
+    let rest = name_without id ys q in
+    let less = without_item entry_id id ys in
+    elim (cases_eq q id) [
+      | inl here ↦
+          let hidden : (e : Option Name) → cond (ties q id) None e ≡ None = λ e.
+          ap (λ t. cond t None e) (ties_same q id here) in
+          let none : name_at q less ≡ None = rest ∙ hidden (name_at q ys) in
+          elim (cases_eq y.id id) [
+            | inl same ↦
+                ap (λ b. name_at q (cond b less (y ∷ less))) (eq-eqb y.id id same) ∙ none
+                ∙ sym (hidden (name_at q (y ∷ ys)))
+            | inr other ↦
+                ap (λ b. name_at q (cond b less (y ∷ less))) (ne_eqb y.id id other)
+                ∙ past q y.id y.value (pairs_named less) (λ e. other (sym e ∙ here)) ∙ none
+                ∙ sym (hidden (name_at q (y ∷ ys)))
+          ]
+      | inr apart ↦
+          let shown : (e : Option Name) → cond (ties q id) None e ≡ e = λ e.
+          ap (λ t. cond t None e) (ties_other q id apart) in
+          let kept : name_at q less ≡ name_at q ys = rest ∙ shown (name_at q ys) in
+          elim (cases_eq y.id id) [
+            | inl same ↦
+                ap (λ b. name_at q (cond b less (y ∷ less))) (eq-eqb y.id id same) ∙ kept
+                ∙ sym (past q y.id y.value (pairs_named ys) (λ e. apart (e ∙ same)))
+                ∙ sym (shown (name_at q (y ∷ ys)))
+            | inr other ↦
+                ap (λ b. name_at q (cond b less (y ∷ less))) (ne_eqb y.id id other)
+                ∙ both q y.id y.value (pairs_named less) (pairs_named ys) kept
+                ∙ sym (shown (name_at q (y ∷ ys)))
+          ]
+    ]
+
+pub labels_without : (id : ℕ) (es : List Named)
+    → labelled (without_item entry_id id es) ≡ fin.remove (labelled es) id
+labels_without id es =
+    same_column (labelled (without_item entry_id id es)) (fin.remove (labelled es) id)
+    (λ q. get_labelled (without_item entry_id id es) q ∙ name_without id es q
+    ∙ ap (cond (ties q id) None) (sym (get_labelled es q))
+    ∙ sym (fin.get-remove nat_cmp_total (labelled es) id q))
+
+abbrev with_name : ℕ → Name → Named
+with_name id name = record { id = id; value = Some name }
+
+name_swapped : (id : ℕ) (name : Name) (es : List Named) (q : ℕ) → IsTrue (has_id entry_id id es)
+    → name_at q (swapped entry_id (with_name id name) es)
+    ≡ cond (ties q id) (Some name) (name_at q es)
+name_swapped id name [] q has = absurd (true≢false (sym has))
+name_swapped id name (y ∷ ys) q has =
+    let more = swapped entry_id (with_name id name) ys in
+    elim (cases_eq y.id id) [
+      | inl same ↦
+          ap (λ b. name_at q (cond b (with_name id name) y ∷ more)) (eq-eqb y.id id same)
+          ∙ elim (cases_eq q id) [
+            | inl here ↦
+                ap (λ t. cond t (Some name) (name_at q more)) (ties_same q id here)
+                ∙ sym (ap (λ t. cond t (Some name) (name_at q (y ∷ ys))) (ties_same q id here))
+            | inr apart ↦
+                ap (λ t. cond t (Some name) (name_at q more)) (ties_other q id apart)
+                ∙ elsewhere ys q apart
+                ∙ sym (past q y.id y.value (pairs_named ys) (λ e. apart (e ∙ same)))
+                ∙ sym (ap (λ t. cond t (Some name) (name_at q (y ∷ ys))) (ties_other q id apart))
+          ]
+      | inr other ↦
+          let has_more : IsTrue (has_id entry_id id ys) =
+          subst (λ b. IsTrue (cond b true (has_id entry_id id ys))) (ne_eqb y.id id other) has in
+          let rest = name_swapped id name ys q has_more in
+          ap (λ b. name_at q (cond b (with_name id name) y ∷ more)) (ne_eqb y.id id other)
+          ∙ elim (cases_eq q id) [
+            | inl here ↦
+                past q y.id y.value (pairs_named more) (λ e. other (sym e ∙ here))
+                ∙ rest
+                ∙ ap (λ t. cond t (Some name) (name_at q ys)) (ties_same q id here)
+                ∙ sym (ap (λ t. cond t (Some name) (name_at q (y ∷ ys))) (ties_same q id here))
+            | inr apart ↦
+                both q y.id y.value (pairs_named more) (pairs_named ys)
+                (rest ∙ ap (λ t. cond t (Some name) (name_at q ys)) (ties_other q id apart))
+                ∙ sym (ap (λ t. cond t (Some name) (name_at q (y ∷ ys))) (ties_other q id apart))
+          ]
+    ]
+  where
+    elsewhere : (es : List Named) (q : ℕ) → (q ≡ id → ⊥)
+        → name_at q (swapped entry_id (with_name id name) es) ≡ name_at q es
+    elsewhere [] q apart = refl
+    elsewhere (z ∷ zs) q apart =
+        let rest = elsewhere zs q apart in
+        let more = swapped entry_id (with_name id name) zs in
+        elim (cases_eq z.id id) [
+          | inl same ↦
+              ap (λ b. name_at q (cond b (with_name id name) z ∷ more)) (eq-eqb z.id id same)
+              ∙ ap (λ t. cond t (Some name) (name_at q more)) (ties_other q id apart)
+              ∙ rest
+              ∙ sym (past q z.id z.value (pairs_named zs) (λ e. apart (e ∙ same)))
+          | inr other ↦
+              ap (λ b. name_at q (cond b (with_name id name) z ∷ more)) (ne_eqb z.id id other)
+              ∙ both q z.id z.value (pairs_named more) (pairs_named zs) rest
+        ]
+
+pub labels_swapped : (id : ℕ) (name : Name) (es : List Named) → IsTrue (has_id entry_id id es)
+    → labelled (swapped entry_id (with_name id name) es) ≡ fin.insert (labelled es) id name
+labels_swapped id name es has =
+    same_column (labelled (swapped entry_id (with_name id name) es))
+    (fin.insert (labelled es) id name)
+    (λ q. get_labelled (swapped entry_id (with_name id name) es) q ∙ name_swapped id name es q has
+    ∙ ap (cond (ties q id) (Some name)) (sym (get_labelled es q))
+    ∙ sym (fin.get-insert nat_cmp_total (labelled es) id name q))

@@ -1,142 +1,245 @@
--- The world of a document.
-use Rattle.std.proofs.Common.{◌≡◌, ℕ, suc, ◌+◌, ◌≤◌, List, [], ◌∷◌, length, map, Option, refl, sym, ap, ◌∙◌, subst, arith, add-zero, zero-add}
-use Rattle.std.specs.Prelude.{slice_index_or}
-use Rattle.std.specs.Ordering.{nat_cmp}
+-- The world of a valid document: what its rows find, and how many stamps they take.
+use Rattle.std.proofs.Common.{◌≡◌, ℕ, ◌+◌, ◌<◌, ◌≤◌, List, [], ◌∷◌, length, Option, is_some, All}
+use Rattle.std.proofs.Common.{refl, sym, ap, ◌∙◌, subst, arith, zero-add, true}
+use Rattle.std.specs.Prelude.{IsTrue}
 use Rattle.std.specs.FinMap as fin
-use Rattle.std.proofs.lemmas.Option.{none-some}
 use Rattle.std.proofs.lemmas.List.{length-map}
+use Rattle.std.proofs.lemmas.List.Elements.{All-weaker}
+use Rattle.base_items.specs.declared.items.ItemSort.TheVariants.{Node, Arc}
 use Rattle.base_items.specs.declared.limits.TheConstants.{MAX_NODES, MAX_ARCS}
-use Rattle.token_text.specs.Names.{has_twice}
 use Rattle.lgf_file.specs.Rows.{Cells}
-use Rattle.lgf_file.specs.Documents.{IsDoc, AreColumns, label, label_in}
+use Rattle.lgf_file.specs.Documents.{label_in, IsDoc, IsLink, node_labels}
 use Rattle.lgf_file.specs.declared.documents.Doc.{Doc}
 use Rattle.lgf_file.specs.declared.documents.Link.{Link}
-use Rattle.desk_world.specs.Falling.{newest_first}
-use Rattle.plain_machine.specs.World.{World, Attached, LacksName, no_items, label_column, item_label, item_texts, put_node, put_arc, add_rows, add_links, opened, load}
-use Rattle.plain_digraph.specs.Steps.{new_node, new_arc}
-use Rattle.desk_world.specs.declared.rows.ItemRows.{ItemRows}
-use Rattle.desk_world.specs.Seen.{seen, AreRows}
-use Rattle.desk_world.specs.Fitting.{FitRows, FitLinks}
-use Rattle.desk_world.proofs.Counted.{IsCounted, empty_counted, node_counted, arc_counted}
-use Rattle.desk_world.proofs.Columns.{label_in_front}
-use Rattle.desk_world.proofs.Labels.{row_labels, labels_apart}
-use Rattle.desk_world.proofs.Fitted.{LacksAll, IsWide, wide_row, column_within, fit_rows, fit_links}
+use Rattle.script_words.specs.declared.commands.GuardWord.{GuardWord}
+use Rattle.plain_digraph.specs.Digraph as plain
+use Rattle.plain_digraph.specs.Digraph.{Digraph}
+use Rattle.plain_digraph.specs.Items.{ids, IsLive}
+use Rattle.plain_digraph.specs.Lists.{has}
+use Rattle.plain_digraph.specs.PlainSteps.{AddNode, AddArc}
+use Rattle.plain_digraph.specs.Valid.{IsValid}
+use Rattle.plain_world.specs.World.{World, Attached}
+use Rattle.plain_world.specs.Effects.{with_maps}
+use Rattle.plain_world.specs.Documents.{load, opened, label_place, described}
+use Rattle.plain_world.specs.Following.{follow}
+use Rattle.plain_world.specs.Valid.{IsWorld, IsWhole, LabelsDiffer}
+use Rattle.plain_world.proofs.Loaded.{loaded_ok}
+use Rattle.desk_world.specs.Loading.{with_nodes, with_arcs, all_described, values_of}
+use Rattle.desk_world.specs.Blank.{IsBlank, HasLiveEnds, NodesLead, ArcsLead, blank_world}
+use Rattle.desk_world.specs.Blank.{own_columns}
+use Rattle.desk_world.specs.Describing.{AreReady, new_maps}
+use Rattle.desk_world.proofs.Blank.{blank_opened}
+use Rattle.desk_world.proofs.Opened.{columns_made, opened_is}
+use Rattle.desk_world.proofs.Filled.{rows_fill, links_fill, own_differ, maps_have, no_label}
+use Rattle.desk_world.proofs.Readied.{graph_stays, labels_there, are_ready}
+use Rattle.desk_world.proofs.TwoPasses.{put_in_two}
 
--- ---- no items
+-- ---- what rows leave as it is
 
--- Rows of no items are seen so.
-pub seen_new : (rows : ItemRows) (columns : Cells) → rows.labels ≡ [] → rows.texts.items ≡ []
-    → rows.columns ≡ item_texts (label_column columns) columns → seen rows ≡ no_items columns
-seen_new rows columns labels texts names = λ i. record {
-  labels = fin.from_entries (newest_first (labels i));
-  columns = names i;
-  texts = fin.from_entries (newest_first (texts i));
-}
+arcs_stay : (place : Option ℕ) (rows : List Cells) (world : World) (id : ℕ)
+    → ((all_described Node place world id rows).arcs ≡ world.arcs)
+arcs_stay place [] world id = refl
+arcs_stay place (cells ∷ rows) world id =
+    arcs_stay place rows (described world Node id place cells) (id + 1)
 
--- No item has a name.
-none_lacks : (columns : Cells) (name : List ℕ) → LacksName (no_items columns) name
-none_lacks columns name place named = none-some name (sym (fin.get-empty nat_cmp place) ∙ named)
+nodes_stay : (place : Option ℕ) (rows : List Cells) (world : World) (id : ℕ)
+    → ((all_described Arc place world id rows).nodes ≡ world.nodes)
+nodes_stay place [] world id = refl
+nodes_stay place (cells ∷ rows) world id =
+    nodes_stay place rows (described world Arc id place cells) (id + 1)
 
--- No item has one of some names.
-none_lack_all : (columns : Cells) (names : List (List ℕ)) → LacksAll (no_items columns) names
-none_lack_all columns [] = tt
-none_lack_all columns (name ∷ names) = (none_lacks columns name, none_lack_all columns names)
+listed_stay : (links : List Link) (world : World)
+    → ((with_arcs world links).graph.nodes ≡ world.graph.nodes)
+listed_stay [] world = refl
+listed_stay (link ∷ links) world = listed_stay links (follow world (AddArc link.from link.to))
 
--- ---- counts
+-- a stamp for each row
+node_stamps : (rows : List Cells) (world : World)
+    → (with_nodes world rows).graph.stamps ≡ world.graph.stamps + length rows
+node_stamps [] world = plus world.graph.stamps
+  where
+    plus : (n : ℕ) → n ≡ n + 0
+    plus n = omega arith
+node_stamps (cells ∷ rows) world =
+    let rest = node_stamps rows (follow world AddNode) in
+    omega (arith, rest)
 
--- So many nodes more.
-rows_counted : (world : World) (place : Option ℕ) (rows : List Cells) (nodes arcs : ℕ) → IsCounted world.graph nodes arcs
-    → IsCounted (add_rows world place rows).graph (nodes + length rows) arcs
-rows_counted world place [] nodes arcs counted = subst (λ n. IsCounted world.graph n arcs) (sym (add-zero nodes)) counted
-rows_counted world place (cells ∷ rows) nodes arcs counted =
-    let total : suc nodes + length rows ≡ nodes + length (cells ∷ rows) = omega arith in
-    let put = put_node world (item_label place cells (new_node world.graph)) (item_texts place cells) in
-    subst (λ n. IsCounted (add_rows put place rows).graph n arcs) total
-    (rows_counted put place rows (suc nodes) arcs (node_counted world.graph nodes arcs counted))
+arc_stamps : (links : List Link) (world : World)
+    → (with_arcs world links).graph.stamps ≡ world.graph.stamps + length links
+arc_stamps [] world = plus world.graph.stamps
+  where
+    plus : (n : ℕ) → n ≡ n + 0
+    plus n = omega arith
+arc_stamps (link ∷ links) world =
+    let rest = arc_stamps links (follow world (AddArc link.from link.to)) in
+    omega (arith, rest)
 
--- So many arcs more.
-links_counted : (world : World) (place : Option ℕ) (links : List Link) (nodes arcs : ℕ) → IsCounted world.graph nodes arcs
-    → IsCounted (add_links world place links).graph nodes (arcs + length links)
-links_counted world place [] nodes arcs counted = subst (IsCounted world.graph nodes) (sym (add-zero arcs)) counted
-links_counted world place (link ∷ links) nodes arcs counted =
-    let total : suc arcs + length links ≡ arcs + length (link ∷ links) = omega arith in
-    let put = put_arc world (item_label place link.values (new_arc world.graph)) (item_texts place link.values) link.from link.to in
-    subst (IsCounted (add_links put place links).graph nodes) total
-    (links_counted put place links nodes (suc arcs) (arc_counted world.graph nodes arcs counted link.from link.to))
+-- ---- a document
 
--- Rows of nodes leave the arcs as they are.
-rows_apart : (world : World) (place : Option ℕ) (rows : List Cells) → (add_rows world place rows).arcs ≡ world.arcs
-rows_apart world place [] = refl
-rows_apart world place (cells ∷ rows) =
-    rows_apart (put_node world (item_label place cells (new_node world.graph)) (item_texts place cells)) place rows
+module _ (doc : Doc) (pool : List GuardWord) (ok : IsDoc doc) where
+  abbrev place : Option ℕ
+  place = label_place doc.nodes.columns
 
--- ---- a valid document
+  abbrev arc_place : Option ℕ
+  arc_place = label_place doc.arc_columns
 
--- The world of a document, before its arcs are put.
-abbrev pub with_rows : Doc → World
-with_rows doc = add_rows (opened doc) (label_column doc.nodes.columns) doc.nodes.rows
+  -- the world with the nodes, with the arcs too, and with what the rows say of the nodes and of the
+  -- arcs
+  abbrev pub noded : World
+  noded = with_nodes (opened doc pool) doc.nodes.rows
 
--- Rows that were put onto the world that is opened for the document.
-pub rows_put : (doc : Doc) (start later : World) (place : Option ℕ) → start ≡ opened doc → place ≡ label_column doc.nodes.columns
-    → later ≡ add_rows start place doc.nodes.rows → later ≡ with_rows doc
-rows_put doc start later place start_is place_is put =
-    put ∙ ap (λ (w : World). add_rows w place doc.nodes.rows) start_is ∙ ap (λ own. add_rows (opened doc) own doc.nodes.rows) place_is
+  abbrev pub linked : World
+  linked = with_arcs noded doc.arcs
 
-module _ (doc : Doc) (valid : IsDoc doc) where
-  -- Its nodes may be put one after the other.
-  pub doc_rows_fit : FitRows (opened doc) (label_column doc.nodes.columns) doc.nodes.rows
-  doc_rows_fit =
-      let table = valid.nodes_ok in
-      let place = label_column doc.nodes.columns in
-      let names = row_labels place 0 doc.nodes.rows in
-      fit_rows (opened doc) place doc.nodes.rows 0 0 empty_counted
-      (none_lack_all doc.nodes.columns names)
-      (labels_apart doc.nodes.columns doc.nodes.rows place refl (λ among. table.labels_differ) (omega (arith, table.few)))
-      (λ k d below. wide_row place doc.nodes.columns (slice_index_or doc.nodes.rows k d) (column_within doc.nodes.columns place refl) (table.wide k d below))
-      (omega (arith, table.few)) (omega arith)
+  abbrev pub told : World
+  told = all_described Node place linked 0 doc.nodes.rows
 
-  -- Its nodes are as many as its rows.
-  rows_are : IsCounted (with_rows doc).graph (length doc.nodes.rows) 0
-  rows_are =
-      subst (λ n. IsCounted (with_rows doc).graph n 0) (zero-add (length doc.nodes.rows))
-      (rows_counted (opened doc) (label_column doc.nodes.columns) doc.nodes.rows 0 0 empty_counted)
+  abbrev pub last : World
+  last = all_described Arc arc_place told 0 (values_of doc.arcs)
 
-  -- Its arcs may be put one after the other.
-  pub doc_links_fit : FitLinks (with_rows doc) (label_column doc.arc_columns) doc.arcs
-  doc_links_fit =
-      let arcs = valid.arcs_ok in
-      let place = label_column doc.arc_columns in
-      let start = with_rows doc in
-      let values = map (λ (link : Link). link.values) doc.arcs in
-      let none : start.arcs ≡ no_items doc.arc_columns = rows_apart (opened doc) (label_column doc.nodes.columns) doc.nodes.rows in
-      let width : length start.arcs.columns ≡ length (item_texts place doc.arc_columns) = ap (λ (own : Attached). length own.columns) none in
-      let count = length-map doc.arcs (λ (link : Link). link.values) in
-      let nodes = length-map doc.nodes.rows (label_in doc.nodes.columns) in
-      fit_links start place doc.arcs (length doc.nodes.rows) 0 rows_are
-      (subst (λ (own : Attached). LacksAll own (row_labels place 0 values)) (sym none) (none_lack_all doc.arc_columns (row_labels place 0 values)))
-      (labels_apart doc.arc_columns values place refl arcs.labels_differ (omega (arith, arcs.few, count)))
-      (λ k d below.
-      let link = slice_index_or doc.arcs k d in
-      let joins = arcs.links k d below in (
-        subst (λ w. IsWide place w link.values) (sym width) (wide_row place doc.arc_columns link.values (column_within doc.arc_columns place refl) joins.2),
-        omega (arith, joins.0, nodes),
-        omega (arith, joins.1, nodes),
-      ))
-      valid.nodes_ok.few (omega (arith, arcs.few))
+  pub last_is : last ≡ load doc pool
+  last_is =
+      sym (put_in_two place arc_place doc.nodes.rows doc.arcs (opened doc pool) refl refl refl refl)
 
-  -- Its world has used a stamp for each row.
-  pub load_stamps : (load doc).graph.stamps ≤ MAX_NODES + MAX_ARCS
-  load_stamps =
-      let counted = links_counted (with_rows doc) (label_column doc.arc_columns) doc.arcs (length doc.nodes.rows) 0 rows_are in
-      omega (arith, counted.stamps_counted, valid.nodes_ok.few, valid.arcs_ok.few)
+  pub last_valid : IsWorld last
+  last_valid = subst IsWorld (sym last_is) (loaded_ok doc pool ok)
 
--- The rows of no items fit, whatever the columns.
-pub new_rows : (rows : ItemRows) (columns : Cells) → AreColumns columns → rows.labels ≡ [] → rows.texts.items ≡ []
-    → rows.columns ≡ item_texts (label_column columns) columns → AreRows rows 0
-new_rows rows columns are labels texts names = record {
-  labelled = ap length labels;
-  filled = ap length texts;
-  differ = ap has_twice labels;
-  wide = λ k d below. absurd (omega (arith, below, ap length texts));
-  columns_ok = subst (λ own. AreColumns (label ∷ own)) (sym names) (label_in_front columns are (label_column columns) refl);
-}
+  told_graph : told.graph ≡ linked.graph
+  told_graph = graph_stays Node place doc.nodes.rows linked 0
+
+  last_graph : last.graph ≡ told.graph
+  last_graph = graph_stays Arc arc_place (values_of doc.arcs) told 0
+
+  last_nodes : last.nodes ≡ told.nodes
+  last_nodes = nodes_stay arc_place (values_of doc.arcs) told 0
+
+  pub last_stamps : last.graph.stamps ≤ MAX_NODES + MAX_ARCS
+  last_stamps =
+      let stamps : last.graph.stamps ≡ linked.graph.stamps =
+      ap (λ (g : Digraph). g.stamps) (last_graph ∙ told_graph) in
+      let arcs = arc_stamps doc.arcs noded in
+      let nodes : noded.graph.stamps ≡ 0 + length doc.nodes.rows =
+      node_stamps doc.nodes.rows (opened doc pool) in
+      let few = ok.nodes_ok.few in
+      let few_arcs = ok.arcs_ok.few in
+      omega (arith, stamps, arcs, nodes, few, few_arcs)
+
+  node_lives : (id : ℕ) → id < length doc.nodes.rows → IsLive noded.graph Node id
+  node_lives id below =
+      let labels : Attached → ℕ → Option (List ℕ) = λ items k. fin.get items.labels k in
+      let there = subst (λ k. is_some (fin.get told.nodes.labels k) ≡ true) (zero-add id)
+      (labels_there Node place doc.nodes.rows linked 0 id below) in
+      let live : IsLive last.graph Node id =
+      (last_valid.nodes_ok.labelled id).1
+      (ap (λ items. is_some (labels items id)) last_nodes ∙ there) in
+      let same : last.graph.nodes ≡ noded.graph.nodes =
+      ap (λ (g : Digraph). g.nodes) (last_graph ∙ told_graph) ∙ listed_stay doc.arcs noded in
+      subst (λ nodes. IsTrue (has (ids nodes) id)) same live
+
+  -- the arcs go from live nodes to live nodes
+  pub ends_live : All (HasLiveEnds noded.graph) doc.arcs
+  ends_live =
+      let labels = node_labels doc.nodes in
+      let size = length-map doc.nodes.rows (label_in doc.nodes.columns) in
+      All-weaker (IsLink labels doc.arc_columns) (HasLiveEnds noded.graph)
+      (λ link is.
+      let from = is.0 in
+      let to = is.1 in (
+        node_lives link.from (omega (arith, from, size)),
+        node_lives link.to (omega (arith, to, size)),
+      )) doc.arcs ok.arcs_ok.links
+
+  module _ (blank : IsBlank (own_columns doc.nodes.columns) (own_columns doc.arc_columns) pool
+      doc.attributes linked) where
+    pub nodes_ready : AreReady Node place (own_columns doc.nodes.columns) linked 0 doc.nodes.rows
+    nodes_ready =
+        let columns = own_columns doc.nodes.columns in
+        let whole : IsWhole last.graph Node last.nodes.labels = last_valid.nodes_ok.labelled in
+        let whole_told : IsWhole linked.graph Node told.nodes.labels =
+        subst (λ g. IsWhole g Node told.nodes.labels) (last_graph ∙ told_graph)
+        (subst (λ (items : Attached). IsWhole last.graph Node items.labels) last_nodes whole) in
+        are_ready Node place columns doc.nodes.rows linked 0
+        (maps_have linked Node columns blank.node_column
+        (ap (λ (w : World). w.nodes.maps) blank.is)
+        (own_differ doc.nodes.columns ok.nodes_ok.columns_ok))
+        (rows_fill doc.nodes.columns doc.nodes.rows ok.nodes_ok.wide)
+        (λ k above. no_label linked.nodes.labels (ap (λ (w : World). w.nodes.labels) blank.is) k)
+        whole_told
+        (subst (λ (items : Attached). LabelsDiffer items.labels) last_nodes
+        last_valid.nodes_ok.labels_differ)
+
+    pub arcs_ready : AreReady Arc arc_place (own_columns doc.arc_columns) told 0
+        (values_of doc.arcs)
+    arcs_ready =
+        let columns = own_columns doc.arc_columns in
+        let stay = arcs_stay place doc.nodes.rows linked 0 in
+        are_ready Arc arc_place columns (values_of doc.arcs) told 0
+        (maps_have told Arc columns blank.arc_column
+        (ap (λ (items : Attached). items.maps) stay ∙ ap (λ (w : World). w.arcs.maps) blank.is)
+        (own_differ doc.arc_columns ok.arcs_ok.columns_ok))
+        (links_fill (node_labels doc.nodes) doc.arc_columns doc.arcs ok.arcs_ok.links)
+        (λ k above. no_label told.arcs.labels
+        (ap (λ (items : Attached). items.labels) stay
+        ∙ ap (λ (w : World). w.arcs.labels) blank.is) k)
+        (subst (λ g. IsWhole g Arc last.arcs.labels) last_graph last_valid.arcs_ok.labelled)
+        last_valid.arcs_ok.labels_differ
+
+  -- ---- the digraph with the nodes, and with the arcs too
+
+  abbrev columns : Cells
+  columns = own_columns doc.nodes.columns
+
+  abbrev arc_columns : Cells
+  arc_columns = own_columns doc.arc_columns
+
+  abbrev Blank : World → Type 0
+  Blank = IsBlank columns arc_columns pool doc.attributes
+
+  module _ (g0 g1 : Digraph) (start : g0 ≡ plain.empty) (nodes : NodesLead doc.nodes.rows g0 g1)
+    where
+      noded_is : (noded.graph ≡ g1) × Blank noded
+      noded_is =
+          nodes columns arc_columns pool doc.attributes (opened doc pool) (sym start)
+          (blank_opened doc pool)
+
+      pub ends_there : All (HasLiveEnds g1) doc.arcs
+      ends_there = subst (λ g. All (HasLiveEnds g) doc.arcs) noded_is.0 ends_live
+
+      module _ (g2 : Digraph) (arcs : ArcsLead doc.arcs g1 g2) (valid : IsValid g2)
+          (first second third : World)
+          (is_first : first ≡ blank_world [] [] pool doc.attributes g2 fin.empty fin.empty)
+          (is_second : second ≡ with_maps first Node (new_maps first Node columns))
+          (is_third : third ≡ with_maps second Arc (new_maps second Arc arc_columns)) where
+        linked_is : (linked.graph ≡ g2) × Blank linked
+        linked_is =
+            arcs columns arc_columns pool doc.attributes noded noded_is.0 noded_is.1
+
+        third_is : third ≡ linked
+        third_is =
+            columns_made columns arc_columns pool doc.attributes g2 first second third is_first
+            is_second is_third
+            ∙ opened_is columns arc_columns pool doc.attributes g2 linked valid linked_is.0
+            linked_is.1
+
+        pub rows_ready : AreReady Node place columns third 0 doc.nodes.rows
+        rows_ready =
+            subst (λ w. AreReady Node place columns w 0 doc.nodes.rows) (sym third_is)
+            (nodes_ready linked_is.1)
+
+        module _ (fourth : World)
+            (is_fourth : fourth ≡ all_described Node place third 0 doc.nodes.rows) where
+          fourth_is : fourth ≡ told
+          fourth_is =
+              is_fourth ∙ ap (λ w. all_described Node place w 0 doc.nodes.rows) third_is
+
+          pub links_ready : AreReady Arc arc_place arc_columns fourth 0 (values_of doc.arcs)
+          links_ready =
+              subst (λ w. AreReady Arc arc_place arc_columns w 0 (values_of doc.arcs))
+              (sym fourth_is) (arcs_ready linked_is.1)
+
+          -- the world that was loaded
+          pub fifth_is : (fifth : World)
+              → fifth ≡ all_described Arc arc_place fourth 0 (values_of doc.arcs)
+              → fifth ≡ last
+          fifth_is fifth is =
+              is ∙ ap (λ w. all_described Arc arc_place w 0 (values_of doc.arcs)) fourth_is

@@ -1,5 +1,6 @@
 -- A walk along a list of ids.
-use Rattle.std.proofs.Common.{◌≡◌, ℕ, ◌<◌, List, [], ◌∷◌, ◌++◌, length, Some, None, Option, refl, sym, ap, ◌∙◌, arith, append_assoc}
+use Rattle.std.proofs.Common.{◌≡◌, ℕ, ◌<◌, List, [], ◌∷◌, ◌++◌, length, Some, None, Option, refl}
+use Rattle.std.proofs.Common.{sym, ap, ◌∙◌, arith, append_assoc}
 use Rattle.std.specs.Prelude.{IsTrue}
 use Rattle.std.proofs.lemmas.List.{append-nil}
 use Rattle.plain_digraph.specs.Lists.{first, has, rest, after, onward, ahead}
@@ -12,7 +13,8 @@ pub record Walked (ids : List ℕ) (next : Option ℕ) (start met : List ℕ) : 
   pub so_far : met ++ ahead ids next ≡ start ++ ids
 
 -- A walk begins at the first id.
-pub walk_start : (ids : List ℕ) (next : Option ℕ) (met : List ℕ) → next ≡ first ids → Walked ids next met met
+pub walk_start : (ids : List ℕ) (next : Option ℕ) (met : List ℕ) → next ≡ first ids
+    → Walked ids next met met
 walk_start ids next met is = record {
   listed = λ id at. first_has ids id (sym is ∙ at);
   so_far = ap (λ n. met ++ ahead ids n) is ∙ ap (λ xs. met ++ xs) (ahead_first ids);
@@ -34,9 +36,11 @@ pub walk_end : (ids start met : List ℕ) → Walked ids None start met → met 
 walk_end ids start met was = sym (append-nil met) ∙ was.so_far
 
 -- Fewer ids are ahead after a step.
-pub fewer_ahead : (ids : List ℕ) (id : ℕ) (next : Option ℕ) → StandsOnce ids → IsTrue (has ids id) → next ≡ after ids id
-    → length (ahead ids next) < length (onward ids id)
+pub fewer_ahead : (ids : List ℕ) (id : ℕ) (next : Option ℕ) → StandsOnce ids
+    → IsTrue (has ids id) → next ≡ after ids id → length (ahead ids next) < length (onward ids id)
 fewer_ahead ids id next once listed goes =
-    let here : length (onward ids id) ≡ length (id ∷ rest ids id) = ap length (ahead_at ids id listed) in
-    let then : length (ahead ids next) ≡ length (rest ids id) = ap length (ap (ahead ids) goes ∙ ahead_after ids id once) in
+    let here : length (onward ids id) ≡ length (id ∷ rest ids id) =
+    ap length (ahead_at ids id listed) in
+    let then : length (ahead ids next) ≡ length (rest ids id) =
+    ap length (ap (ahead ids) goes ∙ ahead_after ids id once) in
     omega (arith, here, then)

@@ -1,21 +1,20 @@
--- The lines of listings, by the tables of labels.
+-- The lines of listings of the base.
 use Rattle.std.specs.Prelude.{ℕ}
-use Rattle.lgf_file.specs.Rows.{Cells}
-use Rattle.lgf_file.specs.Documents.{label_at}
+use Rattle.base_items.specs.declared.items.ItemSort.TheVariants.{Node, Arc}
 use Rattle.report_text.specs.declared.replies.NodeLine.{NodeLine}
 use Rattle.report_text.specs.declared.replies.ArcLine.{ArcLine}
-use Rattle.plain_digraph.specs.Digraph.{Digraph}
 use Rattle.plain_digraph.specs.Items.{source_of, target_of}
+use Rattle.plain_world.specs.World.{World, label_of}
 
--- A node with its label.
-abbrev pub node_line : Cells → ℕ → NodeLine
-node_line labels id = record { id = id; name = label_at labels id }
+-- a node with its label
+abbrev pub node_line : World → ℕ → NodeLine
+node_line world id = record { id = id; name = label_of world Node id }
 
--- An arc with its label and those of its ends.
-abbrev pub arc_line : Digraph → Cells → Cells → ℕ → ArcLine
-arc_line graph node_labels arc_labels id = record {
+-- an arc with its label and those of its ends
+abbrev pub arc_line : World → ℕ → ArcLine
+arc_line world id = record {
   id = id;
-  name = label_at arc_labels id;
-  from = label_at node_labels (source_of graph id);
-  to = label_at node_labels (target_of graph id);
+  name = label_of world Arc id;
+  from = label_of world Node (source_of world.graph id);
+  to = label_of world Node (target_of world.graph id);
 }

@@ -1,114 +1,87 @@
-//! Items that come to a world.
+//! Nodes and arcs are added.
 
-ghost use Rattle.std.specs.Prelude.{◌≡◌, ◌<◌, ℕ, IfErr, OnOk, OnErr};
-ghost use Rattle.report_text.specs.declared.faults.Fault.{Fault as PlainFault};
-ghost use Rattle.plain_machine.specs.World as rules;
-ghost use Rattle.plain_machine.specs.Steps.{Refuses};
-ghost use Rattle.desk_world.specs.Fitting.{FitsNode, FitsArc};
-ghost use Rattle.desk_world.specs.Refusals.{IsRefusal};
+ghost use Rattle.std.specs.Prelude.{◌≡◌, ◌+◌, ◌<◌, ◌^◌};
+ghost use Rattle.script_words.specs.declared.commands.Command.TheVariants as command;
+ghost use Rattle.report_text.specs.declared.faults.StepFault.TheVariants as faults;
+ghost use Rattle.alter_graph.specs.declared.faults.AlterFault.TheVariants as alter_faults;
+ghost use Rattle.desk_world.specs.Plain.{plain_of};
+ghost use Rattle.desk_world.specs.InStep.{IsInStep, HasStamps};
+ghost use Rattle.desk_world.specs.Faults.{Answers};
 
 use crate::world::World;
-use base_items::{ItemSort, List, MAX_ARCS, MAX_NODES, MAX_STAMP, Node};
-use list_digraph::AddFault;
-use report_text::{Fault, StepFault};
-use script_words::Command;
-use std::alloc::{AllocError, Global};
+use alter_graph::AlterFault;
+use base_items::{ItemSort, Node};
+use desk_seats::Seat;
+use observe_core::Observer;
+use report_text::{Reply, StepFault};
+use std::alloc::Global;
 use token_text::{Text, copy_text};
 
-impl World {
-    /// Puts a node with this label and these texts. Where memory runs out the world is as before.
-    pub(crate) fn put_node(&mut self, label: Text, texts: List<Text>) -> Result<(), AllocError>
-        requires { FitsNode self.old label texts }
-        ensures put { OnOk result (self.new ≡ rules.put_node self.old label texts) }
-        ensures unchanged { OnErr result (self.new ≡ self.old) }
-    {
-        self.nodes.push(label, texts)?;
-        match self.graph.add_node() {
-            Ok(_) => Ok(()),
-            Err(AddFault::Memory) => {
-                self.nodes.remove_last();
-                Err(AllocError)
-            }
-            Err(AddFault::Full(_)) => unreachable!(),
-        }
+/// Why an alteration isn't done that no guard refuses and that passes no limit.
+fn refusal(fault: AlterFault) -> StepFault
+    requires { fault ≡ alter_faults.Memory }
+    ensures { result ≡ faults.Memory }
+{
+    match fault {
+        AlterFault::Memory => StepFault::Memory,
+        _ => unreachable!(),
     }
+}
 
-    /// Puts an arc with this label and these texts between two nodes. Where memory runs out the world is as
-    /// before.
-    pub(crate) fn put_arc(
-        &mut self,
-        label: Text,
-        texts: List<Text>,
-        from: u32,
-        to: u32,
-    ) -> Result<(), AllocError>
-        requires { FitsArc self.old label texts from to }
-        ensures put { OnOk result (self.new ≡ rules.put_arc self.old label texts from to) }
-        ensures unchanged { OnErr result (self.new ≡ self.old) }
+impl<B: Observer> World<Seat<B>> {
+    /// Adds a node with this label.
+    pub(crate) fn add_node(&mut self, alloc: Global, label: &Text) -> Result<Reply, StepFault>
+        requires in_step { IsInStep ⟦<Seat<B> as Observer>⟧.watch self.old }
+        requires stamps { HasStamps self.old }
+        ensures step { Answers (plain_of ⟦<Seat<B> as Observer>⟧.watch self.old)
+            (command.AddNode label.now)
+            (plain_of ⟦<Seat<B> as Observer>⟧.watch self.new) result }
+        ensures in_step { IsInStep ⟦<Seat<B> as Observer>⟧.watch self.new }
+        ensures stamps { self.new.graph.graph.graph.stamps
+            < self.old.graph.graph.graph.stamps + 2 ^ 24 }
     {
-        self.arcs.push(label, texts)?;
-        match self.graph.add_arc(Node(from), Node(to)) {
-            Ok(_) => Ok(()),
-            Err(AddFault::Memory) => {
-                self.arcs.remove_last();
-                Err(AllocError)
-            }
-            Err(AddFault::Full(_)) => unreachable!(),
-        }
-    }
-
-    /// Adds a node with this label. It needs a stamp.
-    pub(crate) fn add_node(&mut self, alloc: Global, label: &Text) -> Result<(), StepFault>
-        requires { self.old.graph.stamps < MAX_STAMP }
-        ensures added { OnOk result (self.new ≡ rules.add_node self.old label.now) }
-        ensures allowed { OnOk result ((fault : PlainFault) → Refuses self.old (Command.AddNode label.now) fault → ⊥) }
-        ensures refused { IfErr result (IsRefusal self.old (Command.AddNode label.now)) }
-        ensures unchanged { OnErr result (self.new ≡ self.old) }
-    {
+        self.ask_new_label(alloc, ItemSort::Node, label)?;
+        self.ask_room(1, 0)?;
         let label = copy_text(alloc, label.as_bytes())?;
-        if let Some(_) = self.nodes.labels.find(&label) {
-            return Err(StepFault::Refused(Fault::Taken(label)));
+        self.reserve_label(ItemSort::Node, &label)?;
+        match self.graph.add_node() {
+            Err(fault) => Err(refusal(fault)),
+            Ok(node) => {
+                self.put_label(ItemSort::Node, node.0, label);
+                Ok(Reply::Quiet)
+            }
         }
-        if self.graph.count(ItemSort::Node) == MAX_NODES {
-            return Err(StepFault::Refused(Fault::Full(ItemSort::Node, MAX_NODES)));
-        }
-        let texts = self.nodes.empty_texts(alloc)?;
-        self.put_node(label, texts)?;
-        Ok(())
     }
 
-    /// Adds an arc with this label from one node to another, which are named by their labels. It needs
-    /// a stamp.
+    /// Adds an arc with this label between two nodes, which are named by their labels.
     pub(crate) fn add_arc(
         &mut self,
         alloc: Global,
         label: &Text,
         from: &Text,
         to: &Text,
-    ) -> Result<(), StepFault>
-        requires { self.old.graph.stamps < MAX_STAMP }
-        ensures added { OnOk result ((u : ℕ) × (v : ℕ) × rules.IsNamed self.old.nodes u from.now
-            × rules.IsNamed self.old.nodes v to.now × (self.new ≡ rules.add_arc self.old label.now u v)) }
-        ensures allowed { OnOk result ((fault : PlainFault)
-            → Refuses self.old (Command.AddArc label.now from.now to.now) fault → ⊥) }
-        ensures refused { IfErr result (IsRefusal self.old (Command.AddArc label.now from.now to.now)) }
-        ensures unchanged { OnErr result (self.new ≡ self.old) }
+    ) -> Result<Reply, StepFault>
+        requires in_step { IsInStep ⟦<Seat<B> as Observer>⟧.watch self.old }
+        requires stamps { HasStamps self.old }
+        ensures step { Answers (plain_of ⟦<Seat<B> as Observer>⟧.watch self.old)
+            (command.AddArc label.now from.now to.now)
+            (plain_of ⟦<Seat<B> as Observer>⟧.watch self.new) result }
+        ensures in_step { IsInStep ⟦<Seat<B> as Observer>⟧.watch self.new }
+        ensures stamps { self.new.graph.graph.graph.stamps
+            < self.old.graph.graph.graph.stamps + 2 ^ 24 }
     {
-        let Some(source) = self.nodes.labels.find(from) else {
-            return Err(StepFault::Refused(Fault::Unknown(copy_text(alloc, from.as_bytes())?)));
-        };
-        let Some(target) = self.nodes.labels.find(to) else {
-            return Err(StepFault::Refused(Fault::Unknown(copy_text(alloc, to.as_bytes())?)));
-        };
+        let source = self.find_item(alloc, ItemSort::Node, from)?;
+        let target = self.find_item(alloc, ItemSort::Node, to)?;
+        self.ask_new_label(alloc, ItemSort::Arc, label)?;
+        self.ask_room(0, 1)?;
         let label = copy_text(alloc, label.as_bytes())?;
-        if let Some(_) = self.arcs.labels.find(&label) {
-            return Err(StepFault::Refused(Fault::Taken(label)));
+        self.reserve_label(ItemSort::Arc, &label)?;
+        match self.graph.add_arc(Node(source), Node(target)) {
+            Err(fault) => Err(refusal(fault)),
+            Ok(arc) => {
+                self.put_label(ItemSort::Arc, arc.0, label);
+                Ok(Reply::Quiet)
+            }
         }
-        if self.graph.count(ItemSort::Arc) == MAX_ARCS {
-            return Err(StepFault::Refused(Fault::Full(ItemSort::Arc, MAX_ARCS)));
-        }
-        let texts = self.arcs.empty_texts(alloc)?;
-        self.put_arc(label, texts, source as u32, target as u32)?;
-        Ok(())
     }
 }

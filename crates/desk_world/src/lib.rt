@@ -1,14 +1,27 @@
-//! The world of a script: a digraph with labels and texts of its items, and the commands that it answers.
+//! The world of a script: a digraph, labels, maps and all else that follows it, and the commands
+//! that it answers.
 #![tactic(auto)]
 
 mod additions;
+mod describing;
 mod documents;
+mod items;
+mod labels;
 mod listings;
 mod loading;
+mod map_changes;
+mod map_commands;
+mod map_tables;
+mod maps;
+mod opening;
 mod orders;
-mod rows;
+mod refusals;
+mod saving;
 mod steps;
+mod tables;
+mod values;
 mod world;
 
 pub use steps::built;
+pub use tables::{AttributeRow, GuardRow, ItemTables, KeptKeys, MapKind, MapRow, ViewRow};
 pub use world::World;

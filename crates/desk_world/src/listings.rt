@@ -1,85 +1,90 @@
-//! Listings of the nodes and of the arcs.
+//! Listings of what a view shows.
 
-ghost use Rattle.std.specs.Prelude.{◌≡◌, ◌<◌, length, map, IfOk};
-ghost use Rattle.lgf_file.specs.Documents.{label_at};
+ghost use Rattle.std.specs.Prelude.{◌≡◌, true, map, IfOk, OnOk};
 ghost use Rattle.plain_digraph.specs.Items as items;
-ghost use Rattle.plain_digraph.specs.Valid.{IsValid};
+ghost use Rattle.plain_world.specs.World as plain;
+ghost use Rattle.plain_world.specs.Demands as demands;
+ghost use Rattle.plain_world.specs.Views.{is_base};
+ghost use Rattle.desk_world.specs.Plain.{plain_of};
+ghost use Rattle.desk_world.specs.InStep.{IsInStep};
+ghost use Rattle.desk_world.specs.Faults.{Meets};
 ghost use Rattle.desk_world.specs.Lines.{node_line, arc_line};
 
 use crate::orders::{arc_order, node_order};
+use crate::refusals::unknown;
+use crate::world::World;
 use base_items::{ItemSort, List};
-use list_digraph::ListDigraph;
-use report_text::{ArcLine, NodeLine};
+use desk_seats::Seat;
+use observe_core::Observer;
+use report_text::{ArcLine, NodeLine, StepFault};
 use std::alloc::{AllocError, Global};
-use token_text::{LabelTable, Text};
+use token_text::{Text, copy_text};
 
-/// The nodes, the newest first, each with its label.
-pub fn list_nodes(
-    alloc: Global,
-    graph: &ListDigraph,
-    labels: &LabelTable,
-) -> Result<List<NodeLine>, AllocError>
-    requires { graph.now.graph.used_nodes ≡ length labels.now }
-    ensures { IfOk result (λ lines. lines ≡ map (node_line labels.now) (items.ids graph.now.graph.nodes)) }
+// Whether the name is that of the view that is always there.
+fn is_base(name: &Text) -> bool
+    ensures { result ≡ is_base name.now }
 {
-    let count = graph.count(ItemSort::Node);
-    let nodes = node_order(alloc, graph)?;
-    let mut lines = Vec::with_capacity(alloc, nodes.len())?;
-    for id in nodes.as_slice() {
-        let name = copy_label(labels, *id)?;
-        lines.push(NodeLine { id: *id, name })?;
+    name.as_bytes() == b"base".as_slice()
+}
+
+impl<B: Observer> World<Seat<B>> {
+    /// Asks that there is a view of the name. `Unknown` where there is none. So far there is the
+    /// base alone.
+    pub(crate) fn ask_view(&self, alloc: Global, view: &Text) -> Result<(), StepFault>
+        requires { IsInStep ⟦<Seat<B> as Observer>⟧.watch self.now }
+        ensures meets { let world = plain_of ⟦<Seat<B> as Observer>⟧.watch self.now in
+            Meets world (demands.There demands.Views view.now) result }
+        ensures base { OnOk result (is_base view.now ≡ true) }
+    {
+        if is_base(view) {
+            return Ok(());
+        }
+        Err(unknown(alloc, view))
     }
-    Ok(List::from_vec(lines))
-}
 
-/// The arcs, for each node in turn those from it, the newest first, each with its label and those of its
-/// ends.
-pub fn list_arcs(
-    alloc: Global,
-    graph: &ListDigraph,
-    node_labels: &LabelTable,
-    arc_labels: &LabelTable,
-) -> Result<List<ArcLine>, AllocError>
-    requires nodes { graph.now.graph.used_nodes ≡ length node_labels.now }
-    requires arcs { graph.now.graph.used_arcs ≡ length arc_labels.now }
-    ensures { IfOk result (λ lines.
-        lines ≡ map (arc_line graph.now.graph node_labels.now arc_labels.now) (items.all_arcs graph.now.graph)) }
-{
-    let count = graph.count(ItemSort::Arc);
-    let arcs = arc_order(alloc, graph)?;
-    let mut lines = Vec::with_capacity(alloc, arcs.len())?;
-    for id in arcs.as_slice() {
-        lines.push(told_arc(*id, graph, node_labels, arc_labels)?)?;
+    /// The nodes, the newest first, each with its label.
+    pub(crate) fn list_nodes(&self, alloc: Global) -> Result<List<NodeLine>, AllocError>
+        requires { IsInStep ⟦<Seat<B> as Observer>⟧.watch self.now }
+        ensures { let world = plain_of ⟦<Seat<B> as Observer>⟧.watch self.now in
+            IfOk result (λ lines. lines ≡ map (node_line world) (items.ids world.graph.nodes)) }
+    {
+        let nodes = node_order(alloc, self.graph.graph())?;
+        let mut lines = Vec::new(alloc);
+        for id in nodes.as_slice() {
+            let name = copy_text(alloc, self.label_of(ItemSort::Node, *id).as_bytes())?;
+            lines.push(NodeLine { id: *id, name })?;
+        }
+        Ok(List::from_vec(lines))
     }
-    Ok(List::from_vec(lines))
-}
 
-// An arc with its label and those of its ends.
-fn told_arc(
-    id: u32,
-    graph: &ListDigraph,
-    node_labels: &LabelTable,
-    arc_labels: &LabelTable,
-) -> Result<ArcLine, AllocError>
-    requires valid { IsValid graph.now.graph }
-    requires live { items.IsLive graph.now.graph ItemSort.Arc id }
-    requires nodes { graph.now.graph.used_nodes ≡ length node_labels.now }
-    requires arcs { graph.now.graph.used_arcs ≡ length arc_labels.now }
-    ensures { IfOk result (λ line. line ≡ arc_line graph.now.graph node_labels.now arc_labels.now id) }
-{
-    let Some(fact) = graph.fact(ItemSort::Arc, id) else {
-        unreachable!()
-    };
-    let name = copy_label(arc_labels, id)?;
-    let from = copy_label(node_labels, fact.from)?;
-    let to = copy_label(node_labels, fact.to)?;
-    Ok(ArcLine { id, name, from, to })
-}
+    /// The arcs, for each node in turn those from it, the newest first, each with its label and
+    /// those of its ends.
+    pub(crate) fn list_arcs(&self, alloc: Global) -> Result<List<ArcLine>, AllocError>
+        requires { IsInStep ⟦<Seat<B> as Observer>⟧.watch self.now }
+        ensures { let world = plain_of ⟦<Seat<B> as Observer>⟧.watch self.now in
+            IfOk result (λ lines. lines ≡ map (arc_line world) (items.all_arcs world.graph)) }
+    {
+        let arcs = arc_order(alloc, self.graph.graph())?;
+        let mut lines = Vec::new(alloc);
+        for id in arcs.as_slice() {
+            lines.push(self.arc_line(alloc, *id)?)?;
+        }
+        Ok(List::from_vec(lines))
+    }
 
-// The label of the item with this id.
-fn copy_label(labels: &LabelTable, id: u32) -> Result<Text, AllocError>
-    requires { id < length labels.now }
-    ensures { IfOk result (λ label. label ≡ label_at labels.now id) }
-{
-    labels.label(id as usize).clone()
+    /// An arc with its label and those of its ends.
+    fn arc_line(&self, alloc: Global, id: u32) -> Result<ArcLine, AllocError>
+        requires in_step { IsInStep ⟦<Seat<B> as Observer>⟧.watch self.now }
+        requires live { items.IsLive self.now.graph.graph.graph ItemSort.Arc id }
+        ensures { let world = plain_of ⟦<Seat<B> as Observer>⟧.watch self.now in
+            IfOk result (λ line. line ≡ arc_line world id) }
+    {
+        let Some(fact) = self.graph.graph().fact(ItemSort::Arc, id) else {
+            unreachable!()
+        };
+        let name = copy_text(alloc, self.label_of(ItemSort::Arc, id).as_bytes())?;
+        let from = copy_text(alloc, self.label_of(ItemSort::Node, fact.from).as_bytes())?;
+        let to = copy_text(alloc, self.label_of(ItemSort::Node, fact.to).as_bytes())?;
+        Ok(ArcLine { id, name, from, to })
+    }
 }

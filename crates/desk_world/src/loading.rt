@@ -1,97 +1,60 @@
-//! The rows of a document, put into a world.
+//! The world of a document.
 
-ghost use Rattle.std.specs.Prelude.{◌≡◌, OnOk, IfOk};
-ghost use Rattle.plain_digraph.specs.Steps.{new_node, new_arc};
-ghost use Rattle.plain_machine.specs.World as rules;
-ghost use Rattle.desk_world.specs.Fitting.{FitRows, FitLinks, IsWithin};
+ghost use Rattle.std.specs.Prelude.{◌≡◌, ◌+◌, ◌≤◌, IfOk};
+ghost use Rattle.lgf_file.specs.Documents.{IsDoc};
+ghost use Rattle.plain_world.specs.Documents.{load};
+ghost use Rattle.desk_world.specs.Plain.{plain_of, kinds_of};
+ghost use Rattle.desk_world.specs.InStep.{IsInStep, AreBoxes};
 
+use crate::opening::{add_arcs, add_nodes, without_label};
 use crate::world::World;
-use base_items::List;
-use itoa::Buffer;
-use lgf_file::{Link, find_label};
+use alter_graph::Alterable;
+use base_items::{ItemSort, MAX_ARCS, MAX_NODES, MAX_STAMP};
+use desk_seats::Seat;
+use lgf_file::{Doc, Table, find_label};
+use observe_core::Observer;
 use std::alloc::{AllocError, Global};
-use token_text::{Text, copy_text};
 
-// The label and the texts of an item.
-#[derive(Drop)]
-struct ItemCells {
-    label: Text,
-    texts: List<Text>,
-}
-
-// The cells of a row apart: the label in its column, or where there is none the id in decimal, and the rest.
-fn split_row(
-    alloc: Global,
-    place: Option<usize>,
-    id: usize,
-    cells: List<Text>,
-) -> Result<ItemCells, AllocError>
-    requires { IsWithin place cells }
-    ensures label { IfOk result (λ item. item.label ≡ rules.item_label place cells id) }
-    ensures texts { IfOk result (λ item. item.texts ≡ rules.item_texts place cells) }
-{
-    let Some(place) = place else {
-        let mut buffer = Buffer::new();
-        let label = copy_text(alloc, buffer.format(id).as_bytes())?;
-        return Ok(ItemCells {
-            label,
-            texts: cells,
-        });
-    };
-    let mut rest = cells.into_vec();
-    let label = rest.remove(place);
-    Ok(ItemCells {
-        label,
-        texts: List::from_vec(rest),
-    })
-}
-
-/// The columns but that of the labels.
-pub fn without_label(columns: List<Text>) -> List<Text>
-    ensures { result ≡ rules.item_texts (rules.label_column columns) columns }
-{
-    let Some(place) = find_label(columns.as_slice()) else {
-        return columns;
-    };
-    let mut rest = columns.into_vec();
-    rest.remove(place);
-    List::from_vec(rest)
-}
-
-impl World {
-    /// Puts nodes with the cells of these rows, whose labels stand at this place.
-    pub(crate) fn add_rows(
-        &mut self,
-        alloc: Global,
-        place: Option<usize>,
-        rows: List<List<Text>>,
-    ) -> Result<(), AllocError>
-        requires { FitRows self.old place rows }
-        ensures { OnOk result (self.new ≡ rules.add_rows self.old place rows) }
+impl<B: Observer> World<Seat<B>> {
+    /// The world of a valid document, with these boxes, each a guard that was told nothing: its
+    /// rows get ids from 0 in their order, and each column but `label` is a map of texts. Where the
+    /// arcs have no column `label`, the label of an arc is its id in decimal. It has used a stamp
+    /// for each row. It fails only where memory runs out.
+    pub fn load(alloc: Global, doc: Doc, pool: Vec<Seat<B>>) -> Result<World<Seat<B>>, AllocError>
+        requires doc { IsDoc doc }
+        requires boxes { AreBoxes ⟦<Seat<B> as Observer>⟧.watch pool.items }
+        ensures loaded { IfOk result (λ world. plain_of ⟦<Seat<B> as Observer>⟧.watch world
+            ≡ load doc (kinds_of ⟦<Seat<B> as Observer>⟧.watch pool.items)) }
+        ensures boxes { IfOk result (λ world. world.pool.items ≡ pool.items) }
+        ensures in_step { IfOk result (IsInStep ⟦<Seat<B> as Observer>⟧.watch) }
+        ensures stamps { IfOk result (λ world.
+            world.graph.graph.graph.stamps ≤ MAX_NODES + MAX_ARCS) }
     {
-        for cells in rows.into_vec() {
-            let id = self.nodes.labels.len();
-            let item = split_row(alloc, place, id, cells)?;
-            self.put_node(item.label, item.texts)?;
-        }
-        Ok(())
+        let Doc {
+            nodes: Table { columns, rows },
+            arc_columns,
+            arcs,
+            attributes,
+        } = doc;
+        let node_place = find_label(columns.as_slice());
+        let arc_place = find_label(arc_columns.as_slice());
+        let mut graph = Alterable::new(alloc);
+        add_nodes(&mut graph, rows.as_slice())?;
+        add_arcs(&mut graph, arcs.as_slice())?;
+        let mut world = World::over(alloc, graph, attributes, pool)?;
+        let columns = without_label(columns);
+        let arc_columns = without_label(arc_columns);
+        world.add_columns(alloc, ItemSort::Node, columns.as_slice())?;
+        world.add_columns(alloc, ItemSort::Arc, arc_columns.as_slice())?;
+        world.describe_nodes(alloc, node_place, columns.as_slice(), rows)?;
+        world.describe_arcs(alloc, arc_place, arc_columns.as_slice(), arcs)?;
+        Ok(world)
     }
 
-    /// Puts these arcs, whose labels stand at this place, or are their ids.
-    pub(crate) fn add_links(
-        &mut self,
-        alloc: Global,
-        place: Option<usize>,
-        links: List<Link>,
-    ) -> Result<(), AllocError>
-        requires { FitLinks self.old place links }
-        ensures { OnOk result (self.new ≡ rules.add_links self.old place links) }
+    /// How many stamps are left of 2^62.
+    pub fn stamps_left(&self) -> u64
+        ensures { result + self.now.graph.graph.graph.stamps ≡ MAX_STAMP }
     {
-        for link in links.into_vec() {
-            let id = self.arcs.labels.len();
-            let item = split_row(alloc, place, id, link.values)?;
-            self.put_arc(item.label, item.texts, link.from, link.to)?;
-        }
-        Ok(())
+        self.graph.graph().stamps_left()
     }
 }

@@ -1,10 +1,20 @@
-//! The commands that the program runs.
+//! One step of a world.
 
-ghost use Rattle.std.specs.Prelude.{◌≡◌, ◌⊎◌, IfErr, OnOk};
-ghost use Rattle.plain_machine.specs.Steps.{is_built, base};
-ghost use Rattle.desk_world.specs.Refusals.{IsUnknown};
+ghost use Rattle.std.specs.Prelude.{◌≡◌, ◌+◌, ◌^◌, ◌<◌, true, IfOk, IfErr};
+ghost use Rattle.script_words.specs.Valid.{IsValid};
+ghost use Rattle.plain_world.specs.Steps.{Step};
+ghost use Rattle.plain_world.specs.declared.answers.Answer.TheVariants.{Answered};
+ghost use Rattle.plain_machine.specs.Built.{is_built, RefusedBy};
+ghost use Rattle.desk_world.specs.Plain.{plain_of};
+ghost use Rattle.desk_world.specs.InStep.{IsInStep, HasStamps};
+ghost use Rattle.script_words.specs.declared.commands.Command.TheVariants as commands;
+ghost use Rattle.desk_world.specs.Faults.{Answers};
 
-use report_text::{Fault, StepFault};
+use crate::world::World;
+use base_items::{ItemSort, List};
+use desk_seats::Seat;
+use observe_core::Observer;
+use report_text::{Reply, StepFault};
 use script_words::Command;
 use std::alloc::Global;
 use token_text::{Text, copy_text};
@@ -16,6 +26,11 @@ pub fn built(command: &Command) -> bool
     match command {
         Command::AddNode(_) => true,
         Command::AddArc(_, _, _) => true,
+        Command::NodeMap(_, _) => true,
+        Command::ArcMap(_, _) => true,
+        Command::Set(_, _, _, _) => true,
+        Command::Get(_, _, _) => true,
+        Command::DropMap(_, _) => true,
         Command::Nodes(_) => true,
         Command::Arcs(_) => true,
         Command::Save(_) => true,
@@ -23,13 +38,68 @@ pub fn built(command: &Command) -> bool
     }
 }
 
-/// Refuses each view but the base.
-pub fn ask_base(alloc: Global, view: &Text) -> Result<(), StepFault>
-    ensures base { OnOk result (view.now ≡ base) }
-    ensures other { IfErr result (IsUnknown view.now) }
-{
-    if view.as_bytes() != b"base".as_slice() {
-        return Err(StepFault::Refused(Fault::Unknown(copy_text(alloc, view.as_bytes())?)));
+impl<B: Observer> World<Seat<B>> {
+    /// What the command answers, which has to be valid and one that is [`built`](crate::built). It
+    /// needs 2^24 stamps, and uses fewer.
+    ///
+    /// `Refused` tells the first fault that refuses the command, in the order of the table of
+    /// faults. After it, and where memory runs out, the plain world is as before.
+    pub fn step(&mut self, alloc: Global, command: &Command) -> Result<Reply, StepFault>
+        requires built { is_built command.now ≡ true }
+        requires valid { IsValid command.now }
+        requires in_step { IsInStep ⟦<Seat<B> as Observer>⟧.watch self.old }
+        requires stamps { HasStamps self.old }
+        ensures answered { IfOk result (λ reply. Step
+            (plain_of ⟦<Seat<B> as Observer>⟧.watch self.old) command.now (Answered reply)
+            (plain_of ⟦<Seat<B> as Observer>⟧.watch self.new)) }
+        ensures refused { IfErr result (RefusedBy (plain_of ⟦<Seat<B> as Observer>⟧.watch self.old)
+            command.now (plain_of ⟦<Seat<B> as Observer>⟧.watch self.new)) }
+        ensures in_step { IsInStep ⟦<Seat<B> as Observer>⟧.watch self.new }
+        ensures stamps { self.new.graph.graph.graph.stamps
+            < self.old.graph.graph.graph.stamps + 2 ^ 24 }
+    {
+        match command {
+            Command::AddNode(label) => self.add_node(alloc, label),
+            Command::AddArc(label, from, to) => self.add_arc(alloc, label, from, to),
+            Command::NodeMap(name, kind) => self.new_map(alloc, ItemSort::Node, name, *kind),
+            Command::ArcMap(name, kind) => self.new_map(alloc, ItemSort::Arc, name, *kind),
+            Command::Set(sort, map, item, value) => self.set(alloc, *sort, map, item, value),
+            Command::Get(sort, map, item) => self.get(alloc, *sort, map, item),
+            Command::DropMap(sort, name) => self.drop_map(alloc, *sort, name),
+            Command::Nodes(view) => self.nodes_of(alloc, view),
+            Command::Arcs(view) => self.arcs_of(alloc, view),
+            Command::Save(file) => self.save(alloc, file),
+            _ => unreachable!(),
+        }
     }
-    Ok(())
+
+    /// The nodes that a view shows.
+    fn nodes_of(&self, alloc: Global, view: &Text) -> Result<Reply, StepFault>
+        requires { IsInStep ⟦<Seat<B> as Observer>⟧.watch self.now }
+        ensures { Answers (plain_of ⟦<Seat<B> as Observer>⟧.watch self.now)
+            (commands.Nodes view.now) (plain_of ⟦<Seat<B> as Observer>⟧.watch self.now) result }
+    {
+        self.ask_view(alloc, view)?;
+        Ok(Reply::Nodes(self.list_nodes(alloc)?))
+    }
+
+    /// The arcs that it shows.
+    fn arcs_of(&self, alloc: Global, view: &Text) -> Result<Reply, StepFault>
+        requires { IsInStep ⟦<Seat<B> as Observer>⟧.watch self.now }
+        ensures { Answers (plain_of ⟦<Seat<B> as Observer>⟧.watch self.now) (commands.Arcs view.now)
+            (plain_of ⟦<Seat<B> as Observer>⟧.watch self.now) result }
+    {
+        self.ask_view(alloc, view)?;
+        Ok(Reply::Arcs(self.list_arcs(alloc)?))
+    }
+
+    /// The graph file of the world, under a name.
+    fn save(&self, alloc: Global, file: &Text) -> Result<Reply, StepFault>
+        requires { IsInStep ⟦<Seat<B> as Observer>⟧.watch self.now }
+        ensures { Answers (plain_of ⟦<Seat<B> as Observer>⟧.watch self.now) (commands.Save file.now)
+            (plain_of ⟦<Seat<B> as Observer>⟧.watch self.now) result }
+    {
+        let name = copy_text(alloc, file.as_bytes())?;
+        Ok(Reply::Save(name, List::from_vec(self.written(alloc)?)))
+    }
 }

@@ -1,7 +1,2 @@
-pub mod Three
-pub mod Results
-pub mod Nothing
-pub mod Runs
-pub mod Reached
-pub mod Played
-pub mod Endings
+mod Seated
+mod Finals

@@ -1,2 +1,2 @@
-pub mod Refused
-pub mod Unhanded
+pub mod Pool
+pub mod Found

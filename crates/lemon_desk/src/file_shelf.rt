@@ -1,6 +1,7 @@
 //! The real files. They tell no content.
 
-ghost use Rattle.std.specs.Prelude.{◌≡◌, ℕ, None, ◌^◌, ◌<◌, ◌≤◌, length, Option, Some, IfOk, OnOk, OnErr, is_err};
+ghost use Rattle.std.specs.Prelude.{◌≡◌, ℕ, None, ◌^◌, ◌<◌, ◌≤◌, length, Option, Some, IfOk, OnOk};
+ghost use Rattle.std.specs.Prelude.{OnErr, is_err};
 ghost use Rattle.std.specs.FinMap as map;
 ghost use Rattle.edge_io.specs.Causes.{Rose, NeverFall, StayedSame, counted};
 ghost use Rattle.edge_io.specs.Files.{Files, ReadsFile, KeepsPart};

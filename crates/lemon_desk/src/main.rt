@@ -1,15 +1,14 @@
 //! lgdesk: runs a script on a graph and reports its answers.
 #![tactic(auto)]
 
-mod answers;
+mod boxed;
 mod call_faults;
+pub mod desk;
 #[cfg(test)]
 mod edge_tests;
 mod exit_codes;
 mod file_shelf;
-mod graph_faults;
 mod out_sink;
-mod script;
 pub mod serve;
 #[cfg(test)]
 mod tests;
@@ -33,7 +32,9 @@ fn run(rt: &HostRuntime) -> Status {
     };
     let mut shelf = FileShelf::new(rt);
     let mut report = OutSink::new(io::writer(rt));
-    serve::serve(rt.alloc(), words.as_slice(), &mut shelf, &mut report)
+    let pool = Vec::new(rt.alloc());
+    let (status, _) = serve::serve(rt.alloc(), words.as_slice(), &mut shelf, &mut report, pool);
+    status
 }
 
 // The words after the program's name. Words that can't be had as text count as none.

@@ -1,6 +1,7 @@
 //! The real report. It tells no content.
 
-ghost use Rattle.std.specs.Prelude.{◌≡◌, ℕ, List, None, ◌≤◌, ◌<◌, length, take, Option, IfOk, OnErr, is_err};
+ghost use Rattle.std.specs.Prelude.{◌≡◌, ℕ, List, None, ◌≤◌, ◌<◌, length, take, Option, IfOk};
+ghost use Rattle.std.specs.Prelude.{OnErr, is_err};
 ghost use Rattle.edge_io.specs.Causes.{Rose, counted};
 ghost use Rattle.edge_io.specs.Files.{Took};
 

@@ -1,7 +1,9 @@
-pub mod World
-pub mod Documents
-pub mod Steps
+pub mod Built
 pub mod Texts
 pub mod Runs
+pub mod Words
+pub mod Inputs
 pub mod Outcome
 pub mod Statuses
+pub mod Chosen
+pub mod Laws

@@ -8,8 +8,8 @@ use Rattle.lgf_file.specs.declared.faults.LgfFault.{LgfFault}
 use Rattle.lgf_file.specs.Kinds.{kind_name}
 use Rattle.report_text.specs.Texts.{reply_text, fault_text}
 use Rattle.report_text.specs.declared.replies.Reply.TheVariants as replies
-use Rattle.plain_machine.specs.declared.answers.Answer.{Answer}
-use Rattle.plain_machine.specs.declared.answers.Answer.TheVariants.{Answered, Refused}
+use Rattle.plain_world.specs.declared.answers.Answer.{Answer}
+use Rattle.plain_world.specs.declared.answers.Answer.TheVariants.{Answered, Refused}
 
 -- ---- texts
 

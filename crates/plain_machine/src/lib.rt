@@ -1,15 +1,16 @@
 //! The plain machine: what the program owes, said apart from the code that does it.
 //!
-//! `specs/` has the world and one step of it, a run with its saves, and the outcome. The code here is the
-//! few types and limits that they name.
+//! `specs/` has which commands are run, runs of a script with their saves, and the outcome. The
+//! code here is the few types and limits that they name, and laws.
 #![tactic(auto)]
 
-mod answers;
 mod laws;
 mod limits;
 mod statuses;
 
-pub use answers::Answer;
-pub use laws::limits_are;
+pub use laws::{
+    limits_are, nothing_is_picked, outcomes_are_one, picked_outcomes_are_one, picked_runs_are_one,
+    runs_are_one, steps_are_one, stops_are_one,
+};
 pub use limits::{GRAPH_LIMIT, SCRIPT_LIMIT};
 pub use statuses::Status;

@@ -4,4 +4,5 @@ use Rattle.plain_digraph.specs.Items.{out_arcs}
 use Rattle.desk_world.proofs.orders.arc_order.Given as goal
 
 abbrev pub invariant-loop-node : goal.invariant-loop-node
-invariant-loop-node l = l.arcs.items ≡ flat_map (out_arcs l.graph.graph) (take l.node-index l.node-items)
+invariant-loop-node l =
+    l.arcs.items ≡ flat_map (out_arcs l.graph.graph) (take l.node-index l.node-items)

@@ -1,124 +1,198 @@
-use Rattle.std.proofs.Common.{◌≡◌, ℕ, List, Some, inl, inr, refl, sym, ap, ◌∙◌, subst, take}
-use Rattle.edge_io.specs.Files.{Files, Took}
+use Rattle.std.proofs.Common.{◌≡◌, ℕ, List, [], Some, inl, inr, ⊎_elim, refl, sym, ap, ◌∙◌, subst}
+use Rattle.std.proofs.lemmas.Bool.{true≢false}
+use Rattle.std.specs.Prelude.{IsSome}
+use Rattle.edge_io.specs.Files.{Took}
 use Rattle.plain_machine.specs.declared.statuses.Status.TheVariants as statuses
-use Rattle.plain_machine.specs.Outcome.{contents, usage, IsRun, Counts, Left, EndsRun, ReadRose}
-use Rattle.lemon_desk.proofs.Results.{at_ok, at_err}
-use Rattle.lemon_desk.proofs.Endings.{at_names, lacking, too_long, bad_graph, complete}
-use Rattle.lemon_desk.proofs.serve.serve.Given.{Over}
+use Rattle.plain_machine.specs.Words.{RunOn}
+use Rattle.plain_machine.specs.Outcome.{EndsUsage}
+use Rattle.script_runs.proofs.Nothing.{took_nothing}
+use Rattle.script_runs.proofs.Handed.{nothing_back, hands_back, usage_not_whole}
+use Rattle.script_runs.proofs.Clauses.{lacking_named, too_long_named, bad_graph_named}
+use Rattle.script_runs.proofs.Clauses.{complete_named}
+use Rattle.lemon_desk.proofs.Seated.{all_seated, each_seated}
+use Rattle.lemon_desk.proofs.Finals.{there, there_before, holds_of_last, as_outcome}
 use Rattle.lemon_desk.proofs.serve.serve.Goals as goal
 
-pub returns-then-is_err-clause-outcome : goal.returns-then-is_err-clause-outcome
-returns-then-is_err-clause-outcome g c = λ files told.
-    let failed = sym c.is_err.ensures.value ∙ c.if-is_err.true in
-    let part = at_err c.write_piece.result failed c.write_piece.ensures.part in
-    let cause = at_err c.write_piece.result failed c.write_piece.ensures.cause in (
-      take part.0 usage,
+-- ---- the words have no shape
+
+pub returns-in_default-clause-outcome : goal.returns-in_default-clause-outcome
+returns-in_default-clause-outcome g c = λ files told.
+    let wrote = c.refuse_words.ensures.ends in (
+      wrote.0,
       files,
-      part.2,
+      wrote.1,
       told,
-      inl
-          (c.in_default.ensures.none, ((part.0, refl), cause), refl),
+      (inl (c.in_default.ensures.none, wrote.2, refl), nothing_back c.refuse_words.result),
     )
 
-pub returns-else-is_err-clause-outcome : goal.returns-else-is_err-clause-outcome
-returns-else-is_err-clause-outcome g c = λ files told.
-    let all = at_ok c.write_piece.result (sym c.is_err.ensures.value
-    ∙ c.if-is_err.false) c.write_piece.ensures.all in
-    (usage, files, all, told, inl (c.in_default.ensures.none, refl, refl))
+pub returns-in_default-clause-handed : goal.returns-in_default-clause-handed
+returns-in_default-clause-handed g c = (
+  λ there. absurd (true≢false (sym there)),
+  λ ran. absurd (c.in_default.ensures.none (RunOn ran.0 ran.1) ran.2),
+)
 
--- What the run on the two files came to, by the names that the words tell.
-module _ (g : Over) (c : goal.After-run_files g) where
-  abbrev before : Counts
-  before = record {
-    writes = g.K.Sink.faults c.args.report.now;
-    stores = g.S.Shelf.store_faults
-        c.args.shelf.now;
-  }
+pub returns-in_default-clause-shapeless : goal.returns-in_default-clause-shapeless
+returns-in_default-clause-shapeless g c = λ none.
+    let wrote = c.refuse_words.ensures.ends in
+    (wrote.0, wrote.1, wrote.2, refl)
 
-  abbrev now : Counts
-  now = record {
-    writes = g.K.Sink.faults c.run_files.new.report;
-    stores = g.S.Shelf.store_faults
-        c.run_files.new.shelf;
-  }
+pub returns-in_default-clause-read : goal.returns-in_default-clause-read
+returns-in_default-clause-read g c = λ read.
+    let wrote = c.refuse_words.ensures.ends in
+    absurd (subst (EndsUsage wrote.0 (g.K.Sink.faults c.args.report.now)
+    (g.K.Sink.faults c.refuse_words.new.report)) read wrote.2)
 
-  abbrev left_of : List ℕ → Files → Left
-  left_of out files = record { out = out; files = files; before = before; now = now }
+pub returns-in_default-clause-write : goal.returns-in_default-clause-write
+returns-in_default-clause-write g c = λ write.
+    let wrote = c.refuse_words.ensures.ends in
+    inl (subst (EndsUsage wrote.0 (g.K.Sink.faults c.args.report.now)
+    (g.K.Sink.faults c.refuse_words.new.report)) write wrote.2).1
 
-  abbrev Ran : Files → List ℕ → List ℕ → Type 0
-  Ran files graph script =
-      (out : List ℕ) × (left : Files)
-      × Took (g.K.Sink.taken c.args.report.now) (g.K.Sink.taken c.run_files.new.report) out
-      × (g.S.Shelf.files c.run_files.new.shelf ≡ Some left)
-      × EndsRun files graph script (left_of out left) c.run_files.result
+pub returns-in_default-clause-quiet : goal.returns-in_default-clause-quiet
+returns-in_default-clause-quiet g c =
+    ⊎_elim inl (λ same. inr ((λ name. refl), (λ name. refl), same)) c.refuse_words.ensures.quiet
 
-  by_names : (P : List ℕ → List ℕ → Type 0) (graph script : List ℕ)
-      → IsRun (contents c.args.words.now) graph script
-      → P c.in-Some.graph.now c.in-Some.script.now → P graph script
-  by_names P graph script is =
-      at_names P (contents c.args.words.now) c.in-Some.graph.now c.in-Some.script.now graph script
-      c.in-Some.ensures.some is
+pub returns-in_default-clause-lacking : goal.returns-in_default-clause-lacking
+returns-in_default-clause-lacking g c = λ files graph script told asks lacks.
+    absurd (c.in_default.ensures.none (RunOn graph script) asks)
 
-  ran : (files : Files) (graph script : List ℕ) → g.S.Shelf.files c.args.shelf.now ≡ Some files
-      → IsRun (contents c.args.words.now) graph script → Ran files graph script
-  ran files graph script told is =
-      by_names (Ran files) graph script is (c.run_files.ensures.ends files told)
+pub returns-in_default-clause-too_long : goal.returns-in_default-clause-too_long
+returns-in_default-clause-too_long g c = λ files graph script told asks long.
+    absurd (c.in_default.ensures.none (RunOn graph script) asks)
+
+pub returns-in_default-clause-bad_graph : goal.returns-in_default-clause-bad_graph
+returns-in_default-clause-bad_graph g c = λ files graph script bytes told asks held none.
+    absurd (c.in_default.ensures.none (RunOn graph script) asks)
+
+pub returns-in_default-clause-complete : goal.returns-in_default-clause-complete
+returns-in_default-clause-complete g c =
+    λ files graph script text doc told asks has within first second third last.
+    absurd (c.in_default.ensures.none (RunOn graph script) asks)
+
+-- ---- memory ran out before the run
+
+pub returns-in_default-wrap_boxes-clause-outcome : goal.returns-in_default-wrap_boxes-clause-outcome
+returns-in_default-wrap_boxes-clause-outcome g c = λ files told. (
+  [],
+  files,
+  took_nothing _,
+  told,
+  (inr (RunOn _ _, c.in-Some.ensures.some, inl (refl, refl)), refl),
+)
+
+pub returns-in_default-wrap_boxes-clause-handed : goal.returns-in_default-wrap_boxes-clause-handed
+returns-in_default-wrap_boxes-clause-handed g c =
+    (λ there. absurd (true≢false (sym there)), λ ran. absurd ran.3)
+
+pub returns-in_default-wrap_boxes-clause-shapeless :
+    goal.returns-in_default-wrap_boxes-clause-shapeless
+returns-in_default-wrap_boxes-clause-shapeless g c = λ none.
+    absurd (none (RunOn _ _) c.in-Some.ensures.some)
+
+pub returns-in_default-wrap_boxes-clause-quiet : goal.returns-in_default-wrap_boxes-clause-quiet
+returns-in_default-wrap_boxes-clause-quiet g c = inr ((λ name. refl), (λ name. refl), refl)
+
+pub returns-in_default-wrap_boxes-clause-lacking :
+    goal.returns-in_default-wrap_boxes-clause-lacking
+returns-in_default-wrap_boxes-clause-lacking g c = λ files graph script told asks lacks.
+    (inr refl, took_nothing _, told)
+
+pub returns-in_default-wrap_boxes-clause-too_long :
+    goal.returns-in_default-wrap_boxes-clause-too_long
+returns-in_default-wrap_boxes-clause-too_long g c = λ files graph script told asks long. inr tt
+
+pub returns-in_default-wrap_boxes-clause-bad_graph :
+    goal.returns-in_default-wrap_boxes-clause-bad_graph
+returns-in_default-wrap_boxes-clause-bad_graph g c =
+    λ files graph script bytes told asks held none. inr tt
+
+pub returns-in_default-wrap_boxes-clause-complete :
+    goal.returns-in_default-wrap_boxes-clause-complete
+returns-in_default-wrap_boxes-clause-complete g c =
+    λ files graph script text doc told asks has within first second third last. tt
+
+-- ---- the script was run
+
+pub run_files-status-requires : goal.run_files-status-requires
+run_files-status-requires g c =
+    all_seated _ _ _ c.args.pool.items _ c.in-Ok.ensures c.requires (λ it untold. untold)
 
 pub returns-clause-outcome : goal.returns-clause-outcome
 returns-clause-outcome g c = λ files told.
-    let run = c.run_files.ensures.ends files told in (
+    let run = c.run_files-status.ensures.ends files told in (
       run.0,
       run.1,
       run.2,
       run.3,
-      inr
-          (c.in-Some.graph.now, c.in-Some.script.now, c.in-Some.ensures.some, run.4),
+      as_outcome _ _ _ _ c.as_final.ensures _ (RunOn _ _) _ _ files run.1 run.0 _ _ _
+          c.in-Some.ensures.some
+          (each_seated _ _ _ (λ it. refl) c.args.pool.items _ c.in-Ok.ensures)
+          c.run_files-status.ensures.handed.0 run.4,
     )
 
+pub returns-clause-handed : goal.returns-clause-handed
+returns-clause-handed g c =
+    let is = c.as_final.ensures in
+    let asks = c.in-Some.ensures.some in
+    let whole = c.run_files-status.ensures.handed in (
+      λ back. (
+        _,
+        _,
+        asks,
+        whole.0 (there_before _ _
+            (subst (λ found. IsSome found) is back)),
+      ),
+      λ ran. subst (λ found. IsSome found) (sym is)
+          (there _ _ (whole.1 ran.3)),
+    )
+
+pub returns-clause-in_step : goal.returns-clause-in_step
+returns-clause-in_step g c =
+    holds_of_last _ _ _ c.as_final.ensures _ c.run_files-status.ensures.in_step
+
 pub returns-clause-usage : goal.returns-clause-usage
-returns-clause-usage g c = λ e. absurd (c.run_files.ensures.asked e)
+returns-clause-usage g c = λ usage. absurd (c.run_files-status.ensures.asked usage)
 
 pub returns-clause-shapeless : goal.returns-clause-shapeless
-returns-clause-shapeless g c =
-    λ none. absurd (none c.in-Some.graph.now c.in-Some.script.now c.in-Some.ensures.some)
+returns-clause-shapeless g c = λ none. absurd (none (RunOn _ _) c.in-Some.ensures.some)
 
 pub returns-clause-read : goal.returns-clause-read
-returns-clause-read g c = λ e.
-    let read = c.run_files.ensures.read e in
-    (c.in-Some.graph.now, c.in-Some.script.now, c.in-Some.ensures.some, read.0, read.1, read.2)
+returns-clause-read g c = λ fault.
+    let read = c.run_files-status.ensures.read fault in
+    (_, _, c.in-Some.ensures.some, read.0, read.1, read.2)
 
 pub returns-clause-write : goal.returns-clause-write
-returns-clause-write g c = c.run_files.ensures.write
+returns-clause-write g c = c.run_files-status.ensures.write
+
+pub returns-clause-quiet : goal.returns-clause-quiet
+returns-clause-quiet g c = c.run_files-status.ensures.quiet
 
 pub returns-clause-lacking : goal.returns-clause-lacking
-returns-clause-lacking g c = λ files graph script told is lacks.
-    let run = ran g c files graph script told is in
-    let nothing =
-    lacking files graph script (left_of g c run.0 run.1) c.run_files.result lacks run.4 in (
+returns-clause-lacking g c = λ files graph script told asks lacks.
+    let run = c.run_files-status.ensures.ends files told in
+    let nothing = lacking_named _ _ _ graph script c.in-Some.ensures.some asks _ files _ _ run.4
+    lacks in (
       nothing.0,
-      subst (Took (g.K.Sink.taken c.args.report.now) (g.K.Sink.taken c.run_files.new.report))
+      subst (Took (g.K.Sink.taken c.args.report.now) (g.K.Sink.taken c.run_files-status.new.report))
           nothing.1 run.2,
       run.3 ∙ ap (λ kept. Some kept) nothing.2,
     )
 
 pub returns-clause-too_long : goal.returns-clause-too_long
-returns-clause-too_long g c = λ files graph script told is long.
-    let run = ran g c files graph script told is in
-    too_long files graph script (left_of g c run.0 run.1) c.run_files.result long run.4
+returns-clause-too_long g c = λ files graph script told asks long.
+    let run = c.run_files-status.ensures.ends files told in
+    too_long_named _ _ _ graph script c.in-Some.ensures.some asks _ files _ _ run.4 long
 
 pub returns-clause-bad_graph : goal.returns-clause-bad_graph
-returns-clause-bad_graph g c = λ files graph script bytes told is held none.
-    let run = ran g c files graph script told is in
-    bad_graph files graph script bytes held none (left_of g c run.0 run.1) c.run_files.result run.4
+returns-clause-bad_graph g c = λ files graph script bytes told asks held none.
+    let run = c.run_files-status.ensures.ends files told in
+    bad_graph_named _ _ _ graph script c.in-Some.ensures.some asks _ files _ _ run.4 bytes held none
 
 pub returns-clause-complete : goal.returns-clause-complete
 returns-clause-complete g c =
-    λ files graph script text doc told is has within first second third last.
-    let run = ran g c files graph script told is in
-    let held = g.S.Shelf.files c.args.shelf.now in
-    let reads = g.S.Shelf.read_faults c.args.shelf.now in
-    let later = g.S.Shelf.read_faults c.run_files.new.shelf in
-    let read = λ (e : c.run_files.result ≡ statuses.ReadFault). by_names g c
-    (λ n m. ReadRose held n m reads later) graph script is (c.run_files.ensures.read e).0 in
-    complete files graph script (left_of g c run.0 run.1) c.run_files.result text doc held reads
-    later run.4 has within read first second third last
+    λ files graph script text doc told asks has within first second third last.
+    let run = c.run_files-status.ensures.ends files told in
+    complete_named _ _ _ graph script c.in-Some.ensures.some asks _ files _ _ run.4 text doc
+    (g.S.Shelf.files c.args.shelf.now) (g.S.Shelf.read_faults c.args.shelf.now)
+    (g.S.Shelf.read_faults c.run_files-status.new.shelf) has within
+    (λ fault. (c.run_files-status.ensures.read fault).0) first second third last

@@ -1,0 +1,118 @@
+-- Rows under their names, from the entries of a map.
+use Rattle.std.proofs.Common.{◌≡◌, ℕ, Bool, true, false, cond, List, [], ◌∷◌, ◌++◌, map, filter}
+use Rattle.std.proofs.Common.{Option}
+use Rattle.std.proofs.Common.{Some, None, refl, sym, ap, ◌∙◌, is_some}
+use Rattle.std.specs.Prelude.{not, option_map, find}
+use Rattle.std.specs.Str.{bytes_eq}
+use Rattle.std.specs.Cmp.{both_ways}
+use Rattle.std.specs.List.{AllByRecursion, IsDistinct}
+use Rattle.std.specs.Map.{lookup, remove_entry, keys_of}
+use Rattle.std.proofs.lemmas.Bool.{true≢false, or_from}
+use Rattle.std.proofs.lemmas.Slice.Eq.{bytes_eq-Decides}
+use Rattle.token_text.specs.Names.{is_among, has_twice}
+use Rattle.plain_world.specs.Tables.{Name, Named, under, is_named, entry, has_entry}
+use Rattle.plain_world.specs.Tables.{without_entry}
+use Rattle.plain_world.specs.Valid.{NamesDiffer}
+use Rattle.desk_names.specs.Rows.{rows_of}
+
+-- names are compared either way round
+pub same_back : (a b : Name) → bytes_eq a b ≡ bytes_eq b a
+same_back a b =
+    both_ways (bytes_eq a b) (bytes_eq b a)
+    (λ e. (bytes_eq-Decides b a).1 (sym ((bytes_eq-Decides a b).0 e)))
+    (λ e. (bytes_eq-Decides a b).1 (sym ((bytes_eq-Decides b a).0 e)))
+
+module _ {V : Type 0} where
+  pub entry_found : (name : Name) (es : List (Name × V))
+      → lookup (bytes_eq name) es ≡ entry (rows_of es) name
+  entry_found name [] = refl
+  entry_found name (e ∷ es) =
+      let rest = entry_found name es in
+      ap (λ b. cond b (Some e.1) (lookup (bytes_eq name) es)) (same_back name e.0)
+      ∙ elim (bytes_eq e.0 name) as (λ b. cond b (Some e.1) (lookup (bytes_eq name) es)
+      ≡ option_map (λ (n : Named V). n.value)
+      (cond b (Some (under e.0 e.1)) (find (is_named name) (rows_of es)))) [
+        | true ↦ refl
+        | false ↦ rest
+      ]
+
+  pub rows_pushed : (es : List (Name × V)) (name : Name) (value : V)
+      → rows_of (es ++ (name, value) ∷ []) ≡ rows_of es ++ under name value ∷ []
+  rows_pushed [] name value = refl
+  rows_pushed (e ∷ es) name value =
+      let rest = rows_pushed es name value in
+      λ i. under e.0 e.1 ∷ rest i
+
+  -- a name that isn't among them takes none out
+  stays : (name first : Name) (es : List (Name × V)) → bytes_eq name first ≡ true
+      → AllByRecursion (λ y. bytes_eq first y ≡ false) (keys_of es)
+      → without_entry (rows_of es) name ≡ rows_of es
+  stays name first [] same apart = refl
+  stays name first (e ∷ es) same apart =
+      let rest = stays name first es same apart.1 in
+      let is : name ≡ first = (bytes_eq-Decides name first).0 same in
+      let other : bytes_eq e.0 name ≡ false =
+      same_back e.0 name ∙ ap (λ n. bytes_eq n e.0) is ∙ apart.0 in
+      ap (λ b. cond (not b) (under e.0 e.1 ∷ without_entry (rows_of es) name)
+      (without_entry (rows_of es) name)) other
+      ∙ ap (λ more. under e.0 e.1 ∷ more) rest
+
+  pub rows_removed : (name : Name) (es : List (Name × V)) → IsDistinct bytes_eq (keys_of es)
+      → rows_of (remove_entry (bytes_eq name) es) ≡ without_entry (rows_of es) name
+  unfolding IsDistinct
+  rows_removed name [] distinct = refl
+  rows_removed name (e ∷ es) distinct =
+      let rest = rows_removed name es distinct.1 in
+      elim (bytes_eq name e.0) as (λ b. bytes_eq name e.0 ≡ b
+      → rows_of (cond b es (e ∷ remove_entry (bytes_eq name) es))
+      ≡ without_entry (rows_of (e ∷ es)) name) [
+        | true ↦ λ same.
+            sym (ap (λ b. cond (not b) (under e.0 e.1 ∷ without_entry (rows_of es) name)
+            (without_entry (rows_of es) name)) (same_back e.0 name ∙ same)
+            ∙ stays name e.0 es same distinct.0)
+        | false ↦ λ apart.
+            ap (λ more. under e.0 e.1 ∷ more) rest
+            ∙ sym (ap (λ b. cond (not b) (under e.0 e.1 ∷ without_entry (rows_of es) name)
+            (without_entry (rows_of es) name)) (same_back e.0 name ∙ apart))
+      ] refl
+
+  pub names_of : (es : List (Name × V))
+      → map (λ (e : Named V). e.name) (rows_of es) ≡ keys_of es
+  names_of [] = refl
+  names_of (e ∷ es) =
+      let rest = names_of es in
+      λ i. e.0 ∷ rest i
+
+  pub values_of : (es : List (Name × V))
+      → map (λ (e : Named V). e.value) (rows_of es) ≡ map (λ e. e.1) es
+  values_of [] = refl
+  values_of (e ∷ es) =
+      let rest = values_of es in
+      λ i. e.1 ∷ rest i
+
+  pub none_found : (name : Name) (es : List (Name × V)) → has_entry (rows_of es) name ≡ false
+      → lookup (bytes_eq name) es ≡ None
+  none_found name es none =
+      no_some (lookup (bytes_eq name) es) (ap is_some (entry_found name es) ∙ none)
+    where
+      no_some : (o : Option V) → is_some o ≡ false → o ≡ None
+      no_some None is = refl
+      no_some (Some x) is = absurd (true≢false is)
+
+  -- keys that differ are names that differ
+  none_among : (name : Name) (es : List (Name × V))
+      → AllByRecursion (λ y. bytes_eq name y ≡ false) (keys_of es)
+      → is_among name (map (λ (e : Named V). e.name) (rows_of es)) ≡ false
+  none_among name [] apart = refl
+  none_among name (e ∷ es) apart =
+      or_from (bytes_eq name e.0) (is_among name (map (λ (e : Named V). e.name) (rows_of es)))
+      apart.0 (none_among name es apart.1)
+
+  pub names_differ : (es : List (Name × V)) → IsDistinct bytes_eq (keys_of es)
+      → NamesDiffer (rows_of es)
+  unfolding IsDistinct
+  names_differ [] distinct = refl
+  names_differ (e ∷ es) distinct =
+      let names = map (λ (e : Named V). e.name) (rows_of es) in
+      or_from (is_among e.0 names) (has_twice names) (none_among e.0 es distinct.0)
+      (names_differ es distinct.1)

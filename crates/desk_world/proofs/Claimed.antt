@@ -1,0 +1,401 @@
+-- Seats that come and go with their claims.
+use Rattle.std.proofs.Common.{◌≡◌, ℕ, Bool, true, false, cond, List, [], ◌∷◌, ◌++◌, map, refl, sym}
+use Rattle.std.proofs.Common.{ap}
+use Rattle.std.proofs.Common.{subst, Option, Some, None, ◌∙◌, inl, inr}
+use Rattle.std.specs.Prelude.{◌==◌, ◌&&◌, ◌||◌, option_map}
+use Rattle.std.specs.Option.{option_or}
+use Rattle.std.proofs.lemmas.Bool.{cases_eq, eq-eqb, ne_eqb, true≢false, or_parts, or_from, or_left}
+use Rattle.std.proofs.lemmas.Bool.{or_right}
+use Rattle.std.proofs.lemmas.List.Folds.{list_any-append}
+use Rattle.std.proofs.lemmas.Option.{none-some}
+use Rattle.base_items.specs.declared.items.ItemSort.{ItemSort}
+use Rattle.base_items.specs.declared.items.ItemSort.TheVariants as sorts
+use Rattle.plain_digraph.specs.Items.{facts}
+use Rattle.plain_digraph.specs.Lists.{AllOf, has}
+use Rattle.plain_digraph.specs.Rising.{without_item}
+use Rattle.observe_core.specs.Seen.{Seen, Watched}
+use Rattle.observe_core.specs.Told.{built}
+use Rattle.notify_chain.specs.Seats.{SeatSeen, seat_key, find_seat}
+use Rattle.alter_graph.specs.Chains.{ChainsSeen, seats_in}
+use Rattle.alter_graph.specs.Attaching.{Attaches, detached, with_seats}
+use Rattle.alter_graph.specs.State.{State}
+use Rattle.alter_graph.specs.Verdict.{is_sort}
+use Rattle.desk_world.specs.Claims.{Claim, Role, Plays, Sits, claim, is_claimed, ClaimsDiffer}
+use Rattle.desk_world.specs.InStep.{AreSeated, Differ, keys_in}
+use Rattle.desk_world.specs.Looks.{look_in, seen_at}
+use Rattle.desk_world.proofs.Following.{same_sort, chain_there}
+use Rattle.desk_world.proofs.Looks.{seen_found, seen_last, seen_without}
+use Rattle.desk_world.proofs.Relabelled.{elsewhere, Agrees}
+use Rattle.desk_world.proofs.Seated.{SitsIn, all_so, all_and, all_both}
+use Rattle.desk_world.proofs.Written.{IsElsewhere, no_sort, sort_itself, same_seat}
+
+-- ---- claims
+
+sort_back : (a b : ItemSort) → is_sort a b ≡ is_sort b a
+sort_back sorts.Node sorts.Node = refl
+sort_back sorts.Node sorts.Arc = refl
+sort_back sorts.Arc sorts.Node = refl
+sort_back sorts.Arc sorts.Arc = refl
+
+key_back : (m n : ℕ) → (m == n) ≡ (n == m)
+key_back m n = elim (cases_eq m n) [
+  | inl same ↦ eq-eqb m n same ∙ sym (eq-eqb n m (sym same))
+  | inr other ↦ ne_eqb m n other ∙ sym (ne_eqb n m (λ e. other (sym e)))
+]
+
+apart_back : (s t : ItemSort) (k l : ℕ) → (is_sort s t && k == l) ≡ false
+    → (is_sort t s && l == k) ≡ false
+apart_back s t k l apart = (λ i. sort_back t s i && key_back l k i) ∙ apart
+
+either_way : (a b c : Bool) → (a || (b || c)) ≡ (b || (a || c))
+either_way true true c = refl
+either_way true false c = refl
+either_way false true c = refl
+either_way false false c = refl
+
+-- one claim more in the midst of others
+claimed_more : (front : List Claim) (x : Claim) (back : List Claim) (sort : ItemSort) (key : ℕ)
+    → is_claimed (front ++ x ∷ back) sort key
+    ≡ ((is_sort x.sort sort && x.key == key) || is_claimed (front ++ back) sort key)
+claimed_more [] x back sort key = refl
+claimed_more (y ∷ front) x back sort key =
+    ap (λ b. (is_sort y.sort sort && y.key == key) || b) (claimed_more front x back sort key)
+    ∙ either_way (is_sort y.sort sort && y.key == key) (is_sort x.sort sort && x.key == key)
+    (is_claimed (front ++ back) sort key)
+
+differ_more : (front : List Claim) (x : Claim) (back : List Claim) → ClaimsDiffer (front ++ back)
+    → is_claimed (front ++ back) x.sort x.key ≡ false → ClaimsDiffer (front ++ x ∷ back)
+differ_more [] x back differ none = (none, differ)
+differ_more (y ∷ front) x back differ none =
+    let parts = or_parts (is_sort y.sort x.sort && y.key == x.key)
+    (is_claimed (front ++ back) x.sort x.key) none in (
+      claimed_more front x back y.sort y.key
+          ∙ or_from (is_sort x.sort y.sort && x.key == y.key)
+          (is_claimed (front ++ back) y.sort y.key)
+          (apart_back y.sort x.sort y.key x.key parts.0) differ.0,
+      differ_more front x back differ.1 parts.1,
+    )
+
+differ_less : (front : List Claim) (x : Claim) (back : List Claim)
+    → ClaimsDiffer (front ++ x ∷ back)
+    → ClaimsDiffer (front ++ back) × (is_claimed (front ++ back) x.sort x.key ≡ false)
+differ_less [] x back differ = (differ.1, differ.0)
+differ_less (y ∷ front) x back differ =
+    let rest = differ_less front x back differ.1 in
+    let parts = or_parts (is_sort x.sort y.sort && x.key == y.key)
+    (is_claimed (front ++ back) y.sort y.key)
+    (sym (claimed_more front x back y.sort y.key) ∙ differ.0) in (
+      (parts.1, rest.0),
+      or_from (is_sort y.sort x.sort && y.key == x.key) (is_claimed (front ++ back) x.sort x.key)
+          (apart_back x.sort y.sort x.key y.key parts.0) rest.1,
+    )
+
+-- where claims differ, all others are of other seats
+pub apart_all : (front : List Claim) (x : Claim) (back : List Claim)
+    → ClaimsDiffer (front ++ x ∷ back) → AllOf (IsElsewhere x.sort x.key) (front ++ back)
+apart_all front x back differ =
+    elsewhere x.sort x.key (front ++ back) (differ_less front x back differ).1
+
+all_more : (P : Claim → Type 0) (front : List Claim) (x : Claim) (back : List Claim) → P x
+    → AllOf P (front ++ back) → AllOf P (front ++ x ∷ back)
+all_more P [] x back p all = (p, all)
+all_more P (y ∷ front) x back p all = (all.0, all_more P front x back p all.1)
+
+all_less : (P : Claim → Type 0) (front : List Claim) (x : Claim) (back : List Claim)
+    → AllOf P (front ++ x ∷ back) → AllOf P (front ++ back)
+all_less P [] x back all = all.1
+all_less P (y ∷ front) x back all = (all.0, all_less P front x back all.1)
+
+-- a seat where nothing is seen isn't claimed
+unclaimed : (c : ChainsSeen) (sort : ItemSort) (key : ℕ) (list : List Claim)
+    → look_in c sort key ≡ None → AllOf (SitsIn c) list → is_claimed list sort key ≡ false
+unclaimed c sort key [] none all = refl
+unclaimed c sort key (x ∷ list) none all =
+    let rest = unclaimed c sort key list none all.1 in
+    elim (is_sort x.sort sort && x.key == key) as (λ b.
+    (is_sort x.sort sort && x.key == key) ≡ b → (b || is_claimed list sort key) ≡ false) [
+      | true ↦ λ is.
+          let at = same_seat sort x.sort key x.key is in
+          absurd (subst (Sits x.role) ((λ i. look_in c (at.0 i) (at.1 i)) ∙ none) all.0)
+      | false ↦ λ is. rest
+    ] refl
+
+-- ---- keys
+
+unfound_key : (key : ℕ) (ss : List SeatSeen) → find_seat key ss ≡ None
+    → has (map seat_key ss) key ≡ false
+unfound_key key [] none = refl
+unfound_key key (s ∷ ss) none =
+    let rest = unfound_key key ss in
+    elim (s.key == key) as (λ b. cond b (Some s) (find_seat key ss) ≡ None
+    → (b || has (map seat_key ss) key) ≡ false) [
+      | true ↦ λ e. absurd (none-some s (sym e))
+      | false ↦ λ e. rest e
+    ] none
+
+differ_last : (keys : List ℕ) (key : ℕ) → Differ keys → has keys key ≡ false
+    → Differ (keys ++ key ∷ [])
+differ_last [] key differ none = (refl, tt)
+differ_last (k ∷ keys) key differ none =
+    let parts = or_parts (k == key) (has keys key) none in (
+      list_any-append (λ other. other == k) keys (key ∷ [])
+          ∙ or_from (has keys k) (key == k || false) differ.0
+          (or_from (key == k) false (key_back key k ∙ parts.0) refl),
+      differ_last keys key differ.1 parts.1,
+    )
+
+-- the keys that are left are others than that of the seat that went
+keys_left : (P : ℕ → Type 0) (gone : ℕ) (ss : List SeatSeen) → AllOf P (map seat_key ss)
+    → AllOf (λ k. P k × (k ≡ gone → ⊥)) (map seat_key (without_item seat_key gone ss))
+keys_left P gone [] all = tt
+keys_left P gone (s ∷ ss) all =
+    let rest = keys_left P gone ss all.1 in
+    let less = without_item seat_key gone ss in
+    elim (cases_eq s.key gone) [
+      | inl same ↦ subst (λ b. AllOf (λ k. P k × (k ≡ gone → ⊥))
+          (map seat_key (cond b less (s ∷ less)))) (sym (eq-eqb s.key gone same)) rest
+      | inr other ↦ subst (λ b. AllOf (λ k. P k × (k ≡ gone → ⊥))
+          (map seat_key (cond b less (s ∷ less)))) (sym (ne_eqb s.key gone other))
+          ((all.0, other), rest)
+    ]
+
+has_left : (q gone : ℕ) (ss : List SeatSeen) → has (map seat_key ss) q ≡ false
+    → has (map seat_key (without_item seat_key gone ss)) q ≡ false
+has_left q gone [] none = refl
+has_left q gone (s ∷ ss) none =
+    let parts = or_parts (s.key == q) (has (map seat_key ss) q) none in
+    let rest = has_left q gone ss parts.1 in
+    let less = without_item seat_key gone ss in
+    elim (s.key == gone) as (λ b. has (map seat_key (cond b less (s ∷ less))) q ≡ false) [
+      | true ↦ rest
+      | false ↦ or_from (s.key == q) (has (map seat_key less) q) parts.0 rest
+    ]
+
+differ_left : (gone : ℕ) (ss : List SeatSeen) → Differ (map seat_key ss)
+    → Differ (map seat_key (without_item seat_key gone ss))
+differ_left gone [] differ = tt
+differ_left gone (s ∷ ss) differ =
+    let rest = differ_left gone ss differ.1 in
+    let less = without_item seat_key gone ss in
+    elim (s.key == gone) as (λ b. Differ (map seat_key (cond b less (s ∷ less)))) [
+      | true ↦ rest
+      | false ↦ (has_left s.key gone ss differ.0, rest)
+    ]
+
+-- ---- a seat that came
+
+module _ (sort : ItemSort) (key : ℕ) (role : Role) (front back : List Claim) (came : Watched)
+    (old new : State) (attaches : Attaches sort key came old new)
+    (plays : Plays role (built (facts old.graph sort) came.seen)) where
+  abbrev next : Seen
+  next = built (facts old.graph sort) came.seen
+
+  abbrev t : SeatSeen
+  t = attaches.seat.seat
+
+  abbrev ss : List SeatSeen
+  ss = seats_in sort old.chains
+
+  seats_there : (other : ItemSort) → (sort ≡ other → ⊥)
+      → seats_in other new.chains ≡ seats_in other old.chains
+  seats_there other apart =
+      ap (seats_in other) attaches.rest
+      ∙ chain_there sort other (with_seats (seats_in sort new.chains)) old.chains apart
+
+  none_before : look_in old.chains sort key ≡ None
+  none_before =
+      sym (seen_found key ss) ∙ ap (option_map (λ (s : SeatSeen). s.seen)) attaches.seat.is_new
+
+  -- what is seen in the new seat
+  pub look_came : look_in new.chains sort key ≡ Some next
+  look_came =
+      ap (seen_at key) attaches.seat.last ∙ seen_last key ss t
+      ∙ (λ i. option_or (none_before i)
+      (cond (eq-eqb t.key key attaches.seat.name i) (Some (attaches.seat.seen i)) None))
+
+  look_stays : (s : ItemSort) (k : ℕ) (was : Seen) → look_in old.chains s k ≡ Some was
+      → look_in new.chains s k ≡ Some was
+  look_stays s k was is = elim (same_sort sort s) [
+    | inl same ↦
+        subst (λ x. look_in old.chains x k ≡ Some was → look_in new.chains x k ≡ Some was) same
+        (λ at. ap (seen_at k) attaches.seat.last ∙ seen_last k ss t
+        ∙ ap (λ o. option_or o (cond (t.key == k) (Some t.seen) None)) at) is
+    | inr apart ↦ ap (seen_at k) (seats_there s apart) ∙ is
+  ]
+
+  keys_more : keys_in sort new.chains ≡ keys_in sort old.chains ++ key ∷ []
+  keys_more =
+      ap (map seat_key) attaches.seat.last ∙ pushed ss
+      ∙ ap (λ k. map seat_key ss ++ k ∷ []) attaches.seat.name
+    where
+      pushed : (list : List SeatSeen)
+          → map seat_key (list ++ t ∷ []) ≡ map seat_key list ++ t.key ∷ []
+      pushed [] = refl
+      pushed (s ∷ list) = ap (λ keys. s.key ∷ keys) (pushed list)
+
+  module _ (seated : AreSeated (front ++ back) old.chains) where
+    stay : (x : Claim) → SitsIn old.chains x
+        → Agrees (look_in old.chains) (look_in new.chains) x × SitsIn new.chains x
+    stay x sits = by (look_in old.chains x.sort x.key) refl sits
+      where
+        by : (o : Option Seen) → look_in old.chains x.sort x.key ≡ o → Sits x.role o
+            → Agrees (look_in old.chains) (look_in new.chains) x × SitsIn new.chains x
+        by None is sits = absurd sits
+        by (Some was) is sits =
+            let now = look_stays x.sort x.key was is in
+            (now ∙ sym is, subst (Sits x.role) (sym now) sits)
+
+    -- the same is seen of all other claims
+    pub agree_more : AllOf (Agrees (look_in old.chains) (look_in new.chains)) (front ++ back)
+    agree_more =
+        all_so (SitsIn old.chains) (Agrees (look_in old.chains) (look_in new.chains))
+        (λ x sits. (stay x sits).0) (front ++ back) seated.there
+
+    abbrev one : Claim
+    one = claim sort key role
+
+    -- the seat is claimed, and all others as before
+    pub seats_more : AreSeated (front ++ one ∷ back) new.chains
+    seats_more = record {
+      there = all_more (SitsIn new.chains) front one back (subst (Sits role) (sym look_came) plays)
+          (all_so (SitsIn old.chains) (SitsIn new.chains) (λ x sits. (stay x sits).1)
+          (front ++ back) seated.there);
+      no_other = claimed;
+      claims_differ = differ_more front one back seated.claims_differ
+          (unclaimed old.chains sort key (front ++ back) none_before seated.there);
+      keys_differ = differ;
+    }
+      where
+        still : (s : ItemSort) → AllOf (λ k. is_claimed (front ++ one ∷ back) s k ≡ true)
+            (keys_in s old.chains)
+        still s = all_so (λ k. is_claimed (front ++ back) s k ≡ true)
+            (λ k. is_claimed (front ++ one ∷ back) s k ≡ true)
+            (λ k is. claimed_more front one back s k
+            ∙ or_right (is_sort sort s && key == k) (is_claimed (front ++ back) s k) is)
+            (keys_in s old.chains) (seated.no_other s)
+
+        own : is_claimed (front ++ one ∷ back) sort key ≡ true
+        own = claimed_more front one back sort key
+            ∙ or_left (is_sort sort sort && key == key) (is_claimed (front ++ back) sort key)
+            (λ i. sort_itself sort i && eq-eqb key key refl i)
+
+        claimed : (s : ItemSort) → AllOf (λ k. is_claimed (front ++ one ∷ back) s k ≡ true)
+            (keys_in s new.chains)
+        claimed s = elim (same_sort sort s) [
+          | inl same ↦
+              subst (λ x. AllOf (λ k. is_claimed (front ++ one ∷ back) x k ≡ true)
+              (keys_in x new.chains)) same
+              (subst (AllOf (λ k. is_claimed (front ++ one ∷ back) sort k ≡ true)) (sym keys_more)
+              (all_both (λ k. is_claimed (front ++ one ∷ back) sort k ≡ true)
+              (keys_in sort old.chains) (key ∷ []) (still sort) (own, tt)))
+          | inr apart ↦
+              subst (λ list. AllOf (λ k. is_claimed (front ++ one ∷ back) s k ≡ true)
+              (map seat_key list)) (sym (seats_there s apart)) (still s)
+        ]
+
+        differ : (s : ItemSort) → Differ (keys_in s new.chains)
+        differ s = elim (same_sort sort s) [
+          | inl same ↦
+              subst (λ x. Differ (keys_in x new.chains)) same
+              (subst Differ (sym keys_more)
+              (differ_last (keys_in sort old.chains) key (seated.keys_differ sort)
+              (unfound_key key ss attaches.seat.is_new)))
+          | inr apart ↦
+              subst (λ list. Differ (map seat_key list)) (sym (seats_there s apart))
+              (seated.keys_differ s)
+        ]
+
+-- ---- a seat that went
+
+module _ (sort : ItemSort) (key : ℕ) (role : Role) (front back : List Claim) (c : ChainsSeen)
+    (seated : AreSeated (front ++ claim sort key role ∷ back) c) where
+  abbrev d : ChainsSeen
+  d = detached sort key c
+
+  here : (s : ItemSort)
+      → seats_in s (detached s key c) ≡ without_item seat_key key (seats_in s c)
+  here sorts.Node = refl
+  here sorts.Arc = refl
+
+  there : (s other : ItemSort) → (s ≡ other → ⊥)
+      → seats_in other (detached s key c) ≡ seats_in other c
+  there sorts.Node sorts.Node apart = absurd (apart refl)
+  there sorts.Node sorts.Arc apart = refl
+  there sorts.Arc sorts.Node apart = refl
+  there sorts.Arc sorts.Arc apart = absurd (apart refl)
+
+  abbrev less : List Claim
+  less = front ++ back
+
+  abbrev gone : Claim
+  gone = claim sort key role
+
+  apart : AllOf (IsElsewhere sort key) less
+  apart = apart_all front gone back seated.claims_differ
+
+  agrees : (x : Claim) → IsElsewhere sort key x → Agrees (look_in c) (look_in d) x
+  agrees x other = elim (same_sort sort x.sort) [
+    | inl same ↦
+        let differ : x.key ≡ key → ⊥ = λ is.
+        true≢false (sym ((λ i. is_sort (sym same i) sort && x.key == key)
+        ∙ (λ i. sort_itself sort i && eq-eqb x.key key is i)) ∙ other) in
+        subst (λ s. look_in d s x.key ≡ look_in c s x.key) same
+        (ap (seen_at x.key) (here sort) ∙ seen_without key x.key (seats_in sort c) differ)
+    | inr differ ↦ ap (seen_at x.key) (there sort x.sort differ)
+  ]
+
+  -- the same is seen of all other claims
+  pub agree_less : AllOf (Agrees (look_in c) (look_in d)) less
+  agree_less = all_so (IsElsewhere sort key) (Agrees (look_in c) (look_in d)) agrees less apart
+
+  -- all others are claimed as before
+  pub seats_less : AreSeated less d
+  seats_less = record {
+    there = all_so (λ x. SitsIn c x × Agrees (look_in c) (look_in d) x) (SitsIn d)
+        (λ x at. subst (Sits x.role) (sym at.1) at.0) less
+        (all_and (SitsIn c) (Agrees (look_in c) (look_in d)) less
+        (all_less (SitsIn c) front gone back seated.there) agree_less);
+    no_other = claimed;
+    claims_differ = (differ_less front gone back seated.claims_differ).0;
+    keys_differ = differ;
+  }
+    where
+      left : (s : ItemSort) (k : ℕ) → (is_sort sort s && key == k) ≡ false
+          → is_claimed (front ++ gone ∷ back) s k ≡ true → is_claimed less s k ≡ true
+      left s k other is =
+          sym (ap (λ b. b || is_claimed less s k) other)
+          ∙ sym (claimed_more front gone back s k) ∙ is
+
+      claimed : (s : ItemSort) → AllOf (λ k. is_claimed less s k ≡ true) (keys_in s d)
+      claimed s = elim (same_sort sort s) [
+        | inl same ↦
+            subst (λ x. AllOf (λ k. is_claimed less x k ≡ true) (keys_in x d)) same
+            (subst (λ list. AllOf (λ k. is_claimed less sort k ≡ true) (map seat_key list))
+            (sym (here sort))
+            (all_so
+            (λ k. (is_claimed (front ++ gone ∷ back) sort k ≡ true) × (k ≡ key → ⊥))
+            (λ k. is_claimed less sort k ≡ true)
+            (λ k at. left sort k
+            ((λ i. sort_itself sort i && key == k) ∙ ne_eqb key k (λ e. at.1 (sym e))) at.0)
+            (map seat_key (without_item seat_key key (seats_in sort c)))
+            (keys_left (λ k. is_claimed (front ++ gone ∷ back) sort k ≡ true) key
+            (seats_in sort c) (seated.no_other sort))))
+        | inr apart ↦
+            subst (λ list. AllOf (λ k. is_claimed less s k ≡ true) (map seat_key list))
+            (sym (there sort s apart))
+            (all_so (λ k. is_claimed (front ++ gone ∷ back) s k ≡ true)
+            (λ k. is_claimed less s k ≡ true)
+            (λ k is. left s k (ap (λ b. b && key == k) (no_sort sort s apart)) is)
+            (keys_in s c) (seated.no_other s))
+      ]
+
+      differ : (s : ItemSort) → Differ (keys_in s d)
+      differ s = elim (same_sort sort s) [
+        | inl same ↦
+            subst (λ x. Differ (keys_in x d)) same
+            (subst (λ list. Differ (map seat_key list)) (sym (here sort))
+            (differ_left key (seats_in sort c) (seated.keys_differ sort)))
+        | inr apart ↦
+            subst (λ list. Differ (map seat_key list)) (sym (there sort s apart))
+            (seated.keys_differ s)
+      ]

@@ -1,0 +1,383 @@
+-- What a world stands for follows each step of its digraph.
+use Rattle.std.proofs.Common.{◌≡◌, ◌⊎◌, ℕ, Bool, true, false, cond, List, [], ◌∷◌, map, Option}
+use Rattle.std.proofs.Common.{Some}
+use Rattle.std.proofs.Common.{None, refl, sym, ap, ◌∙◌, subst, inl, inr}
+use Rattle.std.specs.Prelude.{option_map, option_and_then, ◌==◌}
+use Rattle.std.specs.List.{filter_map, cons_option}
+use Rattle.std.proofs.lemmas.Bool.{true≢false}
+use Rattle.std.proofs.lemmas.Option.{none-some, same_Some}
+use Rattle.base_items.specs.declared.items.Fact.{Fact}
+use Rattle.base_items.specs.declared.items.ItemSort.{ItemSort}
+use Rattle.base_items.specs.declared.items.ItemSort.TheVariants as sorts
+use Rattle.script_words.specs.declared.commands.Direction.{Direction}
+use Rattle.script_words.specs.declared.commands.GuardWord.{GuardWord}
+use Rattle.plain_digraph.specs.Digraph.{Digraph}
+use Rattle.plain_digraph.specs.Lists.{AllOf}
+use Rattle.plain_digraph.specs.Items.{facts, count_of}
+use Rattle.plain_digraph.specs.PlainSteps.{PlainStep, AddNode, AddArc, MoveFrom, MoveTo, Turn}
+use Rattle.plain_digraph.specs.PlainSteps.{PlaceBack, EraseArc, EraseNode, ClearArcs, ClearNodes}
+use Rattle.plain_digraph.specs.PlainSteps.{Change, Untouched, change_of, sort_of, after_step}
+use Rattle.plain_digraph.specs.Valid.{IsValid}
+use Rattle.observe_core.specs.declared.kinds.Kind.{Kind}
+use Rattle.observe_core.specs.declared.kinds.Kind.TheVariants as kinds
+use Rattle.observe_core.specs.Held as held
+use Rattle.observe_core.specs.Held.{Held, making_of}
+use Rattle.observe_core.specs.Seen.{Seen}
+use Rattle.observe_core.specs.Fits.{Fits, HeldFits}
+use Rattle.notify_chain.specs.Seats.{SeatSeen, AllSeats, seat_key}
+use Rattle.alter_graph.specs.Chains.{ChainSeen, ChainsSeen, chain_in, seats_in, in_chain}
+use Rattle.alter_graph.specs.State as graph
+use Rattle.alter_graph.specs.State.{State, Stands}
+use Rattle.alter_graph.specs.Steps.{Notice, notice_of, noticed, took, CanTake}
+use Rattle.alter_graph.proofs.Listing.{live_id}
+use Rattle.alter_graph.proofs.Telling.{CanHear, can_hear}
+use Rattle.alter_graph.proofs.Saving.{held_noticed}
+use Rattle.plain_world.specs.Tables.{Name, Named, under, each_changed}
+use Rattle.plain_world.specs.World as plain
+use Rattle.plain_world.specs.Following.{held_after, labels_after, attached_after, guard_after}
+use Rattle.plain_world.specs.Following.{attribute_after, snapshot_after, follow}
+use Rattle.desk_world.specs.declared.tables.MapKind.{MapKind}
+use Rattle.desk_world.specs.declared.tables.MapKind.TheVariants as maps
+use Rattle.desk_world.specs.declared.tables.MapRow.{MapRow}
+use Rattle.desk_world.specs.declared.tables.ItemTables.{ItemTables}
+use Rattle.desk_world.specs.declared.tables.AttributeRow.{AttributeRow}
+use Rattle.desk_world.specs.declared.tables.AttributeRow.TheVariants as rows
+use Rattle.desk_world.specs.declared.world.World.{World}
+use Rattle.desk_world.specs.Claims as claims
+use Rattle.desk_world.specs.Claims.{Role, Plays, Sits, has_map_kind, is_map, made_for, role_of}
+use Rattle.desk_world.specs.Columns.{labels_of}
+use Rattle.desk_world.specs.InStep.{Differ, keys_in, IsBare, is_plain}
+use Rattle.desk_world.specs.Looks.{Look, look_in, looked, seen_at}
+use Rattle.desk_world.specs.Plain.{held_by, map_seen, attached_seen, labels_seen, seat_sort}
+use Rattle.desk_world.specs.Plain.{guard_seen, snapshot_seen, attribute_seen, world_seen, ties_seen}
+use Rattle.desk_world.proofs.Noticed.{seen_noticed, map_hears, change_by, held_follows}
+use Rattle.desk_world.proofs.Noticed.{labels_follow, heard_by}
+
+-- ---- sorts
+
+abbrev is_node : ItemSort → Bool
+is_node sorts.Node = true
+is_node sorts.Arc = false
+
+pub same_sort : (a b : ItemSort) → (a ≡ b) ⊎ (a ≡ b → ⊥)
+same_sort sorts.Node sorts.Node = inl refl
+same_sort sorts.Node sorts.Arc = inr (λ e. true≢false (ap is_node e))
+same_sort sorts.Arc sorts.Node = inr (λ e. true≢false (sym (ap is_node e)))
+same_sort sorts.Arc sorts.Arc = inl refl
+
+pub chain_here : (sort : ItemSort) (f : ChainSeen → ChainSeen) (c : ChainsSeen)
+    → seats_in sort (in_chain sort f c) ≡ (f (chain_in sort c)).seats
+chain_here sorts.Node f c = refl
+chain_here sorts.Arc f c = refl
+
+pub chain_there : (sort other : ItemSort) (f : ChainSeen → ChainSeen) (c : ChainsSeen)
+    → (sort ≡ other → ⊥) → seats_in other (in_chain sort f c) ≡ seats_in other c
+chain_there sorts.Node sorts.Node f c apart = absurd (apart refl)
+chain_there sorts.Node sorts.Arc f c apart = refl
+chain_there sorts.Arc sorts.Node f c apart = refl
+chain_there sorts.Arc sorts.Arc f c apart = absurd (apart refl)
+
+-- ---- the change of a step
+
+change_here : (step : PlainStep) (g : Digraph) → IsValid g → CanTake step g
+    → change_of g step (sort_of step) ≡ change_by (notice_of step g) (count_of g (sort_of step))
+change_here AddNode g valid can = refl
+change_here (AddArc from to) g valid can = refl
+change_here (MoveFrom arc node) g valid can = refl
+change_here (MoveTo arc node) g valid can = refl
+change_here (Turn arc) g valid can = refl
+change_here (PlaceBack fact) g valid can = refl
+change_here (EraseArc arc) g valid can =
+    ap Change.Erased (sym (live_id g sorts.Arc valid arc can))
+change_here (EraseNode node) g valid can =
+    ap Change.Erased (sym (live_id g sorts.Node valid node can.0))
+change_here ClearArcs g valid can = refl
+change_here ClearNodes g valid can = refl
+
+change_there : (step : PlainStep) (g : Digraph) (other : ItemSort) → (sort_of step ≡ other → ⊥)
+    → change_of g step other ≡ Untouched
+change_there AddNode g sorts.Node apart = absurd (apart refl)
+change_there AddNode g sorts.Arc apart = refl
+change_there (AddArc from to) g sorts.Node apart = refl
+change_there (AddArc from to) g sorts.Arc apart = absurd (apart refl)
+change_there (MoveFrom arc node) g sorts.Node apart = refl
+change_there (MoveFrom arc node) g sorts.Arc apart = absurd (apart refl)
+change_there (MoveTo arc node) g sorts.Node apart = refl
+change_there (MoveTo arc node) g sorts.Arc apart = absurd (apart refl)
+change_there (Turn arc) g sorts.Node apart = refl
+change_there (Turn arc) g sorts.Arc apart = absurd (apart refl)
+change_there (PlaceBack fact) g sorts.Node apart = refl
+change_there (PlaceBack fact) g sorts.Arc apart = absurd (apart refl)
+change_there (EraseArc arc) g sorts.Node apart = refl
+change_there (EraseArc arc) g sorts.Arc apart = absurd (apart refl)
+change_there (EraseNode node) g sorts.Node apart = absurd (apart refl)
+change_there (EraseNode node) g sorts.Arc apart = refl
+change_there ClearArcs g sorts.Node apart = refl
+change_there ClearArcs g sorts.Arc apart = absurd (apart refl)
+change_there ClearNodes g sorts.Node apart = absurd (apart refl)
+change_there ClearNodes g sorts.Arc apart = refl
+
+-- ---- roles
+
+pub map_kind : (kind : Kind) → is_map kind ≡ true → kind ≡ kinds.Map
+map_kind kinds.Map is = refl
+map_kind kinds.Quota is = absurd (true≢false (sym is))
+map_kind kinds.Loopless is = absurd (true≢false (sym is))
+map_kind kinds.Simple is = absurd (true≢false (sym is))
+map_kind kinds.OutCap is = absurd (true≢false (sym is))
+map_kind kinds.Fuse is = absurd (true≢false (sym is))
+map_kind kinds.Tally is = absurd (true≢false (sym is))
+
+pub seen_fits : (stamps : ℕ) (live : List Fact) (key : ℕ) (ss : List SeatSeen) (s : Seen)
+    → AllSeats (Stands stamps live) ss → seen_at key ss ≡ Some s → Fits s live
+seen_fits stamps live key [] s all at = absurd (none-some s at)
+seen_fits stamps live key (t ∷ ss) s all at =
+    let rest = seen_fits stamps live key ss s all.1 in
+    elim (t.key == key) as (λ b. cond b (Some t.seen) (seen_at key ss) ≡ Some s → Fits s live) [
+      | true ↦ λ h. subst (λ x. Fits x live) (same_Some t.seen s h) all.0.fits
+      | false ↦ λ h. rest h
+    ] at
+
+-- ---- one step
+
+module _ (step : PlainStep) (s : State) (at : graph.IsInStep s) (can : CanTake step s.graph)
+    (then_valid : IsValid (after_step s.graph step))
+    (differ : (sort : ItemSort) → Differ (keys_in sort s.chains)) where
+  abbrev n : Notice
+  n = notice_of step s.graph
+
+  abbrev d : ChainsSeen
+  d = (took step s).chains
+
+  hears : CanHear n (facts s.graph (sort_of step))
+  hears = can_hear step s.graph at.valid can then_valid
+
+  fits : (sort : ItemSort) (key : ℕ) (was : Seen) → look_in s.chains sort key ≡ Some was
+      → Fits was (facts s.graph sort)
+  fits sorts.Node key was is =
+      seen_fits s.graph.stamps (facts s.graph sorts.Node) key s.chains.nodes.seats was
+      at.seats.nodes is
+  fits sorts.Arc key was is =
+      seen_fits s.graph.stamps (facts s.graph sorts.Arc) key s.chains.arcs.seats was
+      at.seats.arcs is
+
+  look_here : (key : ℕ) → look_in d (sort_of step) key
+      ≡ seen_at key (noticed n (chain_in (sort_of step) s.chains)).seats
+  look_here key = ap (seen_at key) (chain_here (sort_of step) (noticed n) s.chains)
+
+  look_there : (other : ItemSort) (key : ℕ) → (sort_of step ≡ other → ⊥)
+      → look_in d other key ≡ look_in s.chains other key
+  look_there other key apart =
+      ap (seen_at key) (chain_there (sort_of step) other (noticed n) s.chains apart)
+
+  -- what a map's seat shows after the step
+  pub record Followed {Y : Type 0} (read : Held → Y) (after : Change → Y → Y) (role : Role)
+      (sort : ItemSort) (key : ℕ) (was : Seen) : Type 0 where
+    pub later : Seen
+    pub seen : look_in d sort key ≡ Some later
+    pub plays : Plays role later
+    pub reads : read later.held ≡ after (change_of s.graph step sort) (read was.held)
+
+  module _ {Y : Type 0} (read : Held → Y) (after : Change → Y → Y) (role : Role)
+      (no_guard : has_map_kind role ≡ true) (keeps : (y : Y) → after Untouched y ≡ y)
+      (goes : (h : Held) → making_of h ≡ made_for role → HeldFits h (facts s.graph (sort_of step))
+      → read (held_noticed n h) ≡ after (change_by n (count_of s.graph (sort_of step)))
+      (read h)) where
+    followed_here : (key : ℕ) (was : Seen) → look_in s.chains (sort_of step) key ≡ Some was
+        → Plays role was → Followed read after role (sort_of step) key was
+    followed_here key was is plays =
+        let heard = map_hears n (facts s.graph (sort_of step)) was hears
+        (map_kind was.kind (plays.kind ∙ no_guard)) in
+        let stands = fits (sort_of step) key was is in
+        record {
+          later = heard.later;
+          seen = look_here key
+              ∙ seen_noticed n key (seats_in (sort_of step) s.chains) (differ (sort_of step))
+              ∙ ap (option_and_then (heard_by n)) is ∙ heard.hears;
+          plays = record {
+            form = heard.made.form ∙ plays.form;
+            making = heard.made.making ∙ plays.making;
+            kind = ap is_map heard.made.kind ∙ plays.kind;
+          };
+          reads = ap read heard.held ∙ goes was.held plays.making stands.held
+              ∙ ap (λ c. after c (read was.held))
+              (sym (change_here step s.graph at.valid can));
+        }
+
+    pub followed : (sort : ItemSort) (key : ℕ) (was : Seen) → look_in s.chains sort key ≡ Some was
+        → Plays role was → Followed read after role sort key was
+    followed sort key was is plays = elim (same_sort (sort_of step) sort) [
+      | inl same ↦
+          subst (λ t. look_in s.chains t key ≡ Some was → Followed read after role t key was) same
+          (λ here. followed_here key was here plays) is
+      | inr apart ↦ record {
+        later = was;
+        seen = look_there sort key apart ∙ is;
+        plays = plays;
+        reads = sym (keeps (read was.held))
+            ∙ ap (λ c. after c (read was.held)) (sym (change_there step s.graph sort apart));
+      }
+    ]
+
+  -- ---- tables
+
+  seat_of : (role : Role) (o : Option Seen) → Sits role o
+      → (was : Seen) × (o ≡ Some was) × Plays role was
+  seat_of role None sits = absurd sits
+  seat_of role (Some was) sits = (was, refl, sits)
+
+  no_guard_row : (kind : MapKind) → has_map_kind (role_of kind) ≡ true
+  no_guard_row maps.Ints = refl
+  no_guard_row maps.Bools = refl
+  no_guard_row maps.Texts = refl
+  no_guard_row (maps.Degrees way) = refl
+  no_guard_row (maps.Trues map) = refl
+
+  untouched_held : (h : plain.Held) → held_after Untouched h ≡ h
+  untouched_held (plain.Ints column) = refl
+  untouched_held (plain.Bools column) = refl
+  untouched_held (plain.Texts column) = refl
+  untouched_held (plain.Degrees way) = refl
+  untouched_held (plain.Trues map) = refl
+
+  -- the map of a row, in the chain of its own sort
+  row_follows : (sort : ItemSort) (kind : MapKind) (key : ℕ)
+      → Sits (role_of kind) (look_in s.chains sort key)
+      → option_map (λ (x : Seen). held_by kind x.held) (look_in d sort key)
+      ≡ option_map (held_after (change_of s.graph step sort))
+      (option_map (λ (x : Seen). held_by kind x.held) (look_in s.chains sort key))
+  row_follows sort kind key sits =
+      let seat = seat_of (role_of kind) (look_in s.chains sort key) sits in
+      let next =
+      followed (held_by kind) held_after (role_of kind) (no_guard_row kind) untouched_held
+      (held_follows n (facts s.graph (sort_of step)) (count_of s.graph (sort_of step)) hears kind)
+      sort key seat.0 seat.1 seat.2 in
+      ap (option_map (λ (x : Seen). held_by kind x.held)) next.seen
+      ∙ ap Some next.reads
+      ∙ sym (ap (λ o. option_map (held_after (change_of s.graph step sort))
+      (option_map (λ (x : Seen). held_by kind x.held) o)) seat.1)
+
+  -- degrees have nothing of their own
+  degrees_follow : (sort : ItemSort) (way : Direction) (key : ℕ)
+      → Sits (role_of (maps.Degrees way)) (look_in s.chains sorts.Arc key)
+      → (change : Change)
+      → option_map (λ (x : Seen). held_by (maps.Degrees way) x.held) (look_in d sorts.Arc key)
+      ≡ option_map (held_after change)
+      (option_map (λ (x : Seen). held_by (maps.Degrees way) x.held)
+      (look_in s.chains sorts.Arc key))
+  degrees_follow sort way key sits change =
+      let role = role_of (maps.Degrees way) in
+      let seat = seat_of role (look_in s.chains sorts.Arc key) sits in
+      let next = followed (held_by (maps.Degrees way)) held_after role refl untouched_held
+      (λ h made fits. refl) sorts.Arc key seat.0 seat.1 seat.2 in
+      ap (option_map (λ (x : Seen). held_by (maps.Degrees way) x.held)) next.seen
+      ∙ sym (ap (λ o. option_map (held_after change)
+      (option_map (λ (x : Seen). held_by (maps.Degrees way) x.held) o)) seat.1)
+
+  abbrev SitsRow : ItemSort → MapRow → Type 0
+  SitsRow sort row =
+      Sits (role_of row.kind) (look_in s.chains (seat_sort sort row.kind) row.key.0)
+
+  map_follows : (sort : ItemSort) (kind : MapKind) (key : ℕ)
+      → Sits (role_of kind) (look_in s.chains (seat_sort sort kind) key)
+      → option_map (λ (x : Seen). held_by kind x.held) (look_in d (seat_sort sort kind) key)
+      ≡ option_map (held_after (change_of s.graph step sort))
+      (option_map (λ (x : Seen). held_by kind x.held) (look_in s.chains (seat_sort sort kind) key))
+  map_follows sort maps.Ints key sits = row_follows sort maps.Ints key sits
+  map_follows sort maps.Bools key sits = row_follows sort maps.Bools key sits
+  map_follows sort maps.Texts key sits = row_follows sort maps.Texts key sits
+  map_follows sort (maps.Degrees way) key sits =
+      degrees_follow sort way key sits (change_of s.graph step sort)
+  map_follows sort (maps.Trues map) key sits = row_follows sort (maps.Trues map) key sits
+
+  maps_follow : (sort : ItemSort) (table : List (Named MapRow))
+      → AllOf (λ e. SitsRow sort e.value) table
+      → looked (map_seen (look_in d) sort) table
+      ≡ map (λ e. under e.name (held_after (change_of s.graph step sort) e.value))
+      (looked (map_seen (look_in s.chains) sort) table)
+  maps_follow sort [] sit = refl
+  maps_follow sort (e ∷ es) sit =
+      let rest = maps_follow sort es sit.1 in
+      let here = map_follows sort e.value.kind e.value.key.0 sit.0 in
+      (λ i. cons_option (option_map (under e.name) (here i)) (rest i))
+      ∙ put_under e.name (map_seen (look_in s.chains) sort e.value)
+      (looked (map_seen (look_in s.chains) sort) es)
+    where
+      put_under : (name : Name) (o : Option plain.Held) (more : List (Named plain.Held))
+          → cons_option
+          (option_map (under name) (option_map (held_after (change_of s.graph step sort)) o))
+          (map (λ e. under e.name (held_after (change_of s.graph step sort) e.value)) more)
+          ≡ map (λ e. under e.name (held_after (change_of s.graph step sort) e.value))
+          (cons_option (option_map (under name) o) more)
+      put_under name None more = refl
+      put_under name (Some held) more = refl
+
+  labels_after_step : (sort : ItemSort) (key : ℕ) → Sits claims.Labels (look_in s.chains sort key)
+      → labels_seen (look_in d sort key)
+      ≡ labels_after (change_of s.graph step sort) (labels_seen (look_in s.chains sort key))
+  labels_after_step sort key sits =
+      let seat = seat_of claims.Labels (look_in s.chains sort key) sits in
+      let next = followed labels_of labels_after claims.Labels refl (λ labels. refl)
+      (labels_follow n (facts s.graph (sort_of step)) (count_of s.graph (sort_of step)) hears)
+      sort key seat.0 seat.1 seat.2 in
+      ap labels_seen next.seen ∙ next.reads
+      ∙ sym (ap (λ o. labels_after (change_of s.graph step sort) (labels_seen o)) seat.1)
+
+  attached_follows : (sort : ItemSort) (items : ItemTables)
+      → Sits claims.Labels (look_in s.chains sort items.labels.0)
+      → AllOf (λ e. SitsRow sort e.value) items.maps.rows
+      → attached_seen (look_in d) sort items
+      ≡ attached_after (change_of s.graph step sort) (attached_seen (look_in s.chains) sort items)
+  attached_follows sort items labels sit =
+      let named = labels_after_step sort items.labels.0 labels in
+      let held = maps_follow sort items.maps.rows sit in
+      λ i. record { labels = named i; maps = held i }
+
+  attributes_follow : (ties later : ItemSort → Option Seen) (table : List (Named AttributeRow))
+      → AllOf (λ e. is_plain e.value ≡ true) table
+      → looked (attribute_seen later) table
+      ≡ each_changed (attribute_after (change_of s.graph step)) (looked (attribute_seen ties) table)
+  attributes_follow ties later [] all = refl
+  attributes_follow ties later (e ∷ es) all =
+      let rest = attributes_follow ties later es all.1 in
+      one e.value all.0 rest
+    where
+      one : (row : AttributeRow) → is_plain row ≡ true
+          → looked (attribute_seen later) es
+          ≡ each_changed (attribute_after (change_of s.graph step))
+          (looked (attribute_seen ties) es)
+          → cons_option (option_map (under e.name) (attribute_seen later row))
+          (looked (attribute_seen later) es)
+          ≡ each_changed (attribute_after (change_of s.graph step))
+          (cons_option (option_map (under e.name) (attribute_seen ties row))
+          (looked (attribute_seen ties) es))
+      one (rows.Plain text) is rest = ap (λ more. under e.name (plain.Plain text) ∷ more) rest
+      one (rows.Tied sort number) is rest = absurd (true≢false (sym is))
+
+  -- the world that is seen after the step is the one that follows it
+  pub world_follows : {O : Type 0} (w : World O) (pool : List GuardWord) → IsBare w
+      → Sits claims.Labels (look_in s.chains sorts.Node w.nodes.labels.0)
+      → Sits claims.Labels (look_in s.chains sorts.Arc w.arcs.labels.0)
+      → AllOf (λ e. SitsRow sorts.Node e.value) w.nodes.maps.rows
+      → AllOf (λ e. SitsRow sorts.Arc e.value) w.arcs.maps.rows
+      → world_seen (after_step s.graph step) (look_in d) pool w
+      ≡ follow (world_seen s.graph (look_in s.chains) pool w) step
+  world_follows w pool bare node_labels arc_labels node_maps arc_maps =
+      let nodes = attached_follows sorts.Node w.nodes node_labels node_maps in
+      let arcs = attached_follows sorts.Arc w.arcs arc_labels arc_maps in
+      let guards = subst (λ table. looked (guard_seen (look_in d)) table
+      ≡ each_changed (guard_after (change_of s.graph step))
+      (looked (guard_seen (look_in s.chains)) table)) (sym bare.guards) refl in
+      let snaps = subst (λ table. looked (snapshot_seen (after_step s.graph step) (look_in d)) table
+      ≡ map (λ e. under e.name (snapshot_after s.graph step e.value))
+      (looked (snapshot_seen s.graph (look_in s.chains)) table)) (sym bare.snapshots) refl in
+      let attributes = attributes_follow (ties_seen (look_in s.chains) w) (ties_seen (look_in d) w)
+      w.attributes.rows bare.attributes in
+      λ i. record (world_seen s.graph (look_in s.chains) pool w) {
+        graph = after_step s.graph step;
+        nodes = nodes i;
+        arcs = arcs i;
+        guards = guards i;
+        snapshots = snaps i;
+        attributes = attributes i;
+      }

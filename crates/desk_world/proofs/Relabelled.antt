@@ -1,0 +1,186 @@
+-- A world in which an item got a label.
+use Rattle.std.proofs.Common.{◌≡◌, ℕ, Bool, true, false, List, [], ◌∷◌, ◌++◌, map, refl, sym, ap}
+use Rattle.std.proofs.Common.{subst}
+use Rattle.std.proofs.Common.{Option, Some, None, ◌∙◌, Contains}
+use Rattle.std.specs.Prelude.{IsTrue, option_map, ◌==◌, ◌&&◌, ◌||◌}
+use Rattle.std.specs.FinMap as fin
+use Rattle.std.specs.List.{flat_map, list_any}
+use Rattle.std.proofs.lemmas.Bool.{or_parts, true≢false}
+use Rattle.base_items.specs.declared.items.ItemSort.{ItemSort}
+use Rattle.base_items.specs.declared.items.ItemSort.TheVariants as sorts
+use Rattle.plain_digraph.specs.Digraph.{Digraph}
+use Rattle.plain_digraph.specs.Lists.{AllOf}
+use Rattle.script_words.specs.declared.commands.GuardWord.{GuardWord}
+use Rattle.observe_core.specs.Seen.{Seen}
+use Rattle.alter_graph.specs.Chains.{ChainsSeen}
+use Rattle.alter_graph.specs.Verdict.{is_sort}
+use Rattle.plain_world.specs.Tables.{Name, Named}
+use Rattle.plain_world.specs.World as plain
+use Rattle.plain_world.specs.Following.{labelled}
+use Rattle.desk_world.specs.declared.tables.MapRow.{MapRow}
+use Rattle.desk_world.specs.declared.tables.AttributeRow.{AttributeRow}
+use Rattle.desk_world.specs.declared.tables.AttributeRow.TheVariants as rows
+use Rattle.desk_world.specs.declared.world.World.{World}
+use Rattle.desk_world.specs.Claims as claims
+use Rattle.desk_world.specs.Claims.{Claim, claims_of, is_claimed, ClaimsDiffer, map_claim}
+use Rattle.desk_world.specs.Claims.{guard_claim}
+use Rattle.desk_world.specs.Claims.{snap_claims, role_of}
+use Rattle.desk_world.specs.InStep.{IsBare, is_plain}
+use Rattle.desk_world.specs.Looks.{Look, looked}
+use Rattle.desk_world.specs.Plain.{world_seen, map_seen, labels_seen, attribute_seen, ties_seen}
+use Rattle.desk_world.specs.Plain.{guard_seen, snapshot_seen, seat_sort, held_by, tables_of}
+use Rattle.desk_world.proofs.Changing.{same_rows}
+use Rattle.desk_world.proofs.Seated.{all_left, all_right}
+use Rattle.desk_world.proofs.Written.{IsElsewhere}
+
+-- ---- claims of other seats
+
+pub elsewhere : (sort : ItemSort) (key : ℕ) (list : List Claim) → is_claimed list sort key ≡ false
+    → AllOf (IsElsewhere sort key) list
+elsewhere sort key [] none = tt
+elsewhere sort key (x ∷ list) none =
+    let parts = or_parts (is_sort x.sort sort && x.key == key) (is_claimed list sort key) none in
+    (parts.0, elsewhere sort key list parts.1)
+
+module _ (look later : Look) where
+  abbrev pub Agrees : Claim → Type 0
+  Agrees x = later x.sort x.key ≡ look x.sort x.key
+
+  pub rows_agree : (sort : ItemSort) (table : List (Named MapRow))
+      → AllOf Agrees (map (map_claim sort) table)
+      → looked (map_seen later sort) table ≡ looked (map_seen look sort) table
+  rows_agree sort table all =
+      same_rows (map_seen look sort) (map_seen later sort) table (each table all)
+    where
+      each : (table : List (Named MapRow)) → AllOf Agrees (map (map_claim sort) table)
+          → AllOf (λ (e : Named MapRow). map_seen later sort e.value
+          ≡ map_seen look sort e.value) table
+      each [] all = tt
+      each (e ∷ es) all = (
+        ap (option_map (λ (s : Seen). held_by e.value.kind s.held)) all.0,
+        each es all.1,
+      )
+
+  pub attributes_agree : (ties others : ItemSort → Option Seen) (table : List (Named AttributeRow))
+      → AllOf (λ e. is_plain e.value ≡ true) table
+      → looked (attribute_seen others) table ≡ looked (attribute_seen ties) table
+  attributes_agree ties others table all =
+      same_rows (attribute_seen ties) (attribute_seen others) table (each table all)
+    where
+      one : (row : AttributeRow) → is_plain row ≡ true
+          → attribute_seen others row ≡ attribute_seen ties row
+      one (rows.Plain text) is = refl
+      one (rows.Tied sort number) is = absurd (true≢false (sym is))
+
+      each : (table : List (Named AttributeRow)) → AllOf (λ e. is_plain e.value ≡ true) table
+          → AllOf (λ (e : Named AttributeRow). attribute_seen others e.value
+          ≡ attribute_seen ties e.value) table
+      each [] all = tt
+      each (e ∷ es) all = (one e.value all.0, each es all.1)
+
+-- ---- the world
+
+module _ {O : Type 0} (w : World O) (bare : IsBare w) (g : Digraph) (look later : Look)
+    (pool : List GuardWord) where
+  -- what hangs on no item of the sorts
+  others_agree : (looked (guard_seen later) w.guards.rows ≡ looked (guard_seen look) w.guards.rows)
+      × (looked (snapshot_seen g later) w.snapshots.rows
+      ≡ looked (snapshot_seen g look) w.snapshots.rows)
+      × (looked (attribute_seen (ties_seen later w)) w.attributes.rows
+      ≡ looked (attribute_seen (ties_seen look w)) w.attributes.rows)
+  others_agree = (
+    subst (λ table. looked (guard_seen later) table ≡ looked (guard_seen look) table)
+        (sym bare.guards) refl,
+    subst (λ table. looked (snapshot_seen g later) table ≡ looked (snapshot_seen g look) table)
+        (sym bare.snapshots) refl,
+    attributes_agree look later (ties_seen look w) (ties_seen later w) w.attributes.rows
+        bare.attributes,
+  )
+
+  -- the labels of one sort have one more, and all else is as before
+  pub one_label : (sort : ItemSort) (id : ℕ) (name : Name)
+      → labels_seen (later sort (tables_of w sort).labels.0)
+      ≡ fin.insert (labels_seen (look sort (tables_of w sort).labels.0)) id name
+      → ((other : ItemSort) → (sort ≡ other → ⊥)
+      → later other (tables_of w other).labels.0 ≡ look other (tables_of w other).labels.0)
+      → ((other : ItemSort) → AllOf (Agrees look later)
+      (map (map_claim other) (tables_of w other).maps.rows))
+      → world_seen g later pool w ≡ labelled (world_seen g look pool w) sort id name
+  one_label sorts.Node id name here apart agree =
+      let o = others_agree in
+      let node_maps = rows_agree look later sorts.Node w.nodes.maps.rows (agree sorts.Node) in
+      let arc_maps = rows_agree look later sorts.Arc w.arcs.maps.rows (agree sorts.Arc) in
+      let arc_labels = ap labels_seen (apart sorts.Arc (λ e. no_arc e)) in
+      λ i. record (world_seen g look pool w) {
+        nodes = record { labels = here i; maps = node_maps i };
+        arcs = record { labels = arc_labels i; maps = arc_maps i };
+        guards = o.0 i;
+        snapshots = o.1 i;
+        attributes = o.2 i;
+      }
+    where
+      no_arc : sorts.Node ≡ sorts.Arc → ⊥
+      no_arc e = true≢false (ap (λ s. is_sort s sorts.Node) e)
+  one_label sorts.Arc id name here apart agree =
+      let o = others_agree in
+      let node_maps = rows_agree look later sorts.Node w.nodes.maps.rows (agree sorts.Node) in
+      let arc_maps = rows_agree look later sorts.Arc w.arcs.maps.rows (agree sorts.Arc) in
+      let node_labels = ap labels_seen (apart sorts.Node (λ e. no_node e)) in
+      λ i. record (world_seen g look pool w) {
+        nodes = record { labels = node_labels i; maps = node_maps i };
+        arcs = record { labels = here i; maps = arc_maps i };
+        guards = o.0 i;
+        snapshots = o.1 i;
+        attributes = o.2 i;
+      }
+    where
+      no_node : sorts.Arc ≡ sorts.Node → ⊥
+      no_node e = true≢false (ap (λ s. is_sort s sorts.Arc) e)
+
+-- ---- where the claims of labels are
+
+module _ {O : Type 0} (w : World O) (differ : ClaimsDiffer (claims_of w)) where
+  abbrev after_arcs : List Claim
+  after_arcs = map guard_claim w.guards.rows ++ flat_map snap_claims w.snapshots.rows
+
+  abbrev after_nodes : List Claim
+  after_nodes = map (map_claim sorts.Arc) w.arcs.maps.rows ++ after_arcs
+
+  abbrev tables : List Claim
+  tables = map (map_claim sorts.Node) w.nodes.maps.rows ++ after_nodes
+
+  -- every map sits elsewhere than the labels
+  pub maps_elsewhere : (sort other : ItemSort)
+      → AllOf (IsElsewhere sort (tables_of w sort).labels.0)
+      (map (map_claim other) (tables_of w other).maps.rows)
+  maps_elsewhere sort other = pick other (all sort)
+    where
+      all : (x : ItemSort) → AllOf (IsElsewhere x (tables_of w x).labels.0) tables
+      all sorts.Node =
+          (elsewhere sorts.Node w.nodes.labels.0
+          (claims.claim sorts.Node w.nodes.ties.0 claims.Ties
+          ∷ claims.claim sorts.Arc w.arcs.labels.0 claims.Labels
+          ∷ claims.claim sorts.Arc w.arcs.ties.0 claims.Ties ∷ tables) differ.0).1.1.1
+      all sorts.Arc =
+          (elsewhere sorts.Arc w.arcs.labels.0
+          (claims.claim sorts.Arc w.arcs.ties.0 claims.Ties ∷ tables) differ.1.1.0).1
+
+      pick : (y : ItemSort) → AllOf (IsElsewhere sort (tables_of w sort).labels.0) tables
+          → AllOf (IsElsewhere sort (tables_of w sort).labels.0)
+          (map (map_claim y) (tables_of w y).maps.rows)
+      pick sorts.Node list =
+          all_left (IsElsewhere sort (tables_of w sort).labels.0)
+          (map (map_claim sorts.Node) w.nodes.maps.rows) after_nodes list
+      pick sorts.Arc list =
+          all_left (IsElsewhere sort (tables_of w sort).labels.0)
+          (map (map_claim sorts.Arc) w.arcs.maps.rows) after_arcs
+          (all_right (IsElsewhere sort (tables_of w sort).labels.0)
+          (map (map_claim sorts.Node) w.nodes.maps.rows) after_nodes list)
+
+  -- and so do the labels of the other sort
+  pub labels_elsewhere : (sort other : ItemSort) → (sort ≡ other → ⊥) → (key : ℕ)
+      → IsElsewhere sort key (claims.claim other (tables_of w other).labels.0 claims.Labels)
+  labels_elsewhere sorts.Node sorts.Node apart key = absurd (apart refl)
+  labels_elsewhere sorts.Node sorts.Arc apart key = refl
+  labels_elsewhere sorts.Arc sorts.Node apart key = refl
+  labels_elsewhere sorts.Arc sorts.Arc apart key = absurd (apart refl)

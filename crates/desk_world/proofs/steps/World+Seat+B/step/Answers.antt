@@ -1,0 +1,164 @@
+use Rattle.script_words.specs.declared.commands.Command.TheVariants as commands
+use Rattle.script_words.specs.Valid.{IsValid}
+use Rattle.std.proofs.Common.{refl, subst}
+use Rattle.desk_seats.specs.contracts.seat.SeatObserver.TheImpl.{watch-value}
+use Rattle.desk_world.specs.Plain.{plain_of}
+use Rattle.desk_world.proofs.Answered.{same_stamps}
+use Rattle.desk_world.proofs.Stepping.{answered_by, refused_by}
+use Rattle.desk_world.proofs.steps.World+Seat+B.step.Goals as goal
+
+pub new_map-requires-clause-name : goal.new_map-requires-clause-name
+new_map-requires-clause-name g c = subst IsValid c.in-NodeMap.is c.requires.valid
+
+pub new_map-requires-in-ArcMap-clause-name : goal.new_map-requires-in-ArcMap-clause-name
+new_map-requires-in-ArcMap-clause-name g c = subst IsValid c.in-ArcMap.is c.requires.valid
+
+pub returns-in-AddNode : goal.returns-in-AddNode
+returns-in-AddNode g c =
+    let w = (watch-value g.row.B g.B.Observer g.B.Observer-dict g.B.Destruct-dict).it in
+    let old = plain_of w c.args.self.now in
+    let new = plain_of w c.add_node.new.self in
+    let asked = commands.AddNode c.in-AddNode.label in
+    record {
+      answered = answered_by old new c.args.command.now asked c.in-AddNode.is c.add_node.result
+          c.add_node.ensures.step;
+      refused = refused_by old new c.args.command.now asked c.in-AddNode.is c.add_node.result
+          c.add_node.ensures.step;
+      in_step = c.add_node.ensures.in_step;
+      stamps = c.add_node.ensures.stamps;
+    }
+
+pub returns-in-AddArc : goal.returns-in-AddArc
+returns-in-AddArc g c =
+    let w = (watch-value g.row.B g.B.Observer g.B.Observer-dict g.B.Destruct-dict).it in
+    let old = plain_of w c.args.self.now in
+    let new = plain_of w c.add_arc.new.self in
+    let asked = commands.AddArc c.in-AddArc.label c.in-AddArc.from c.in-AddArc.to in
+    record {
+      answered = answered_by old new c.args.command.now asked c.in-AddArc.is c.add_arc.result
+          c.add_arc.ensures.step;
+      refused = refused_by old new c.args.command.now asked c.in-AddArc.is c.add_arc.result
+          c.add_arc.ensures.step;
+      in_step = c.add_arc.ensures.in_step;
+      stamps = c.add_arc.ensures.stamps;
+    }
+
+pub returns-in-NodeMap : goal.returns-in-NodeMap
+returns-in-NodeMap g c =
+    let w = (watch-value g.row.B g.B.Observer g.B.Observer-dict g.B.Destruct-dict).it in
+    let old = plain_of w c.args.self.now in
+    let new = plain_of w c.new_map.new.self in
+    let asked = commands.NodeMap c.in-NodeMap.name c.in-NodeMap.kind in
+    record {
+      answered = answered_by old new c.args.command.now asked c.in-NodeMap.is c.new_map.result
+          c.new_map.ensures.step;
+      refused = refused_by old new c.args.command.now asked c.in-NodeMap.is c.new_map.result
+          c.new_map.ensures.step;
+      in_step = c.new_map.ensures.in_step;
+      stamps = c.new_map.ensures.stamps;
+    }
+
+pub returns-in-ArcMap : goal.returns-in-ArcMap
+returns-in-ArcMap g c =
+    let w = (watch-value g.row.B g.B.Observer g.B.Observer-dict g.B.Destruct-dict).it in
+    let old = plain_of w c.args.self.now in
+    let new = plain_of w c.new_map-in-ArcMap.new.self in
+    let asked = commands.ArcMap c.in-ArcMap.name c.in-ArcMap.kind in
+    record {
+      answered = answered_by old new c.args.command.now asked c.in-ArcMap.is
+          c.new_map-in-ArcMap.result c.new_map-in-ArcMap.ensures.step;
+      refused = refused_by old new c.args.command.now asked c.in-ArcMap.is
+          c.new_map-in-ArcMap.result c.new_map-in-ArcMap.ensures.step;
+      in_step = c.new_map-in-ArcMap.ensures.in_step;
+      stamps = c.new_map-in-ArcMap.ensures.stamps;
+    }
+
+pub returns-in-Set : goal.returns-in-Set
+returns-in-Set g c =
+    let w = (watch-value g.row.B g.B.Observer g.B.Observer-dict g.B.Destruct-dict).it in
+    let old = plain_of w c.args.self.now in
+    let new = plain_of w c.set.new.self in
+    let asked = commands.Set c.in-Set.sort c.in-Set.map c.in-Set.item c.in-Set.value in
+    record {
+      answered = answered_by old new c.args.command.now asked c.in-Set.is c.set.result
+          c.set.ensures.step;
+      refused = refused_by old new c.args.command.now asked c.in-Set.is c.set.result
+          c.set.ensures.step;
+      in_step = c.set.ensures.in_step;
+      stamps = c.set.ensures.stamps;
+    }
+
+pub returns-in-Get : goal.returns-in-Get
+returns-in-Get g c =
+    let w = (watch-value g.row.B g.B.Observer g.B.Observer-dict g.B.Destruct-dict).it in
+    let old = plain_of w c.args.self.now in
+    let new = plain_of w c.args.self.now in
+    let asked = commands.Get c.in-Get.sort c.in-Get.map c.in-Get.item in
+    record {
+      answered = answered_by old new c.args.command.now asked c.in-Get.is c.get.result
+          c.get.ensures;
+      refused = refused_by old new c.args.command.now asked c.in-Get.is c.get.result
+          c.get.ensures;
+      in_step = c.requires.in_step;
+      stamps = same_stamps _ _ refl;
+    }
+
+pub returns-in-DropMap : goal.returns-in-DropMap
+returns-in-DropMap g c =
+    let w = (watch-value g.row.B g.B.Observer g.B.Observer-dict g.B.Destruct-dict).it in
+    let old = plain_of w c.args.self.now in
+    let new = plain_of w c.drop_map.new.self in
+    let asked = commands.DropMap c.in-DropMap.sort c.in-DropMap.name in
+    record {
+      answered = answered_by old new c.args.command.now asked c.in-DropMap.is c.drop_map.result
+          c.drop_map.ensures.step;
+      refused = refused_by old new c.args.command.now asked c.in-DropMap.is c.drop_map.result
+          c.drop_map.ensures.step;
+      in_step = c.drop_map.ensures.in_step;
+      stamps = c.drop_map.ensures.stamps;
+    }
+
+pub returns-in-Nodes : goal.returns-in-Nodes
+returns-in-Nodes g c =
+    let w = (watch-value g.row.B g.B.Observer g.B.Observer-dict g.B.Destruct-dict).it in
+    let old = plain_of w c.args.self.now in
+    let new = plain_of w c.args.self.now in
+    let asked = commands.Nodes c.in-Nodes.view in
+    record {
+      answered = answered_by old new c.args.command.now asked c.in-Nodes.is c.nodes_of.result
+          c.nodes_of.ensures;
+      refused = refused_by old new c.args.command.now asked c.in-Nodes.is c.nodes_of.result
+          c.nodes_of.ensures;
+      in_step = c.requires.in_step;
+      stamps = same_stamps _ _ refl;
+    }
+
+pub returns-in-Arcs : goal.returns-in-Arcs
+returns-in-Arcs g c =
+    let w = (watch-value g.row.B g.B.Observer g.B.Observer-dict g.B.Destruct-dict).it in
+    let old = plain_of w c.args.self.now in
+    let new = plain_of w c.args.self.now in
+    let asked = commands.Arcs c.in-Arcs.view in
+    record {
+      answered = answered_by old new c.args.command.now asked c.in-Arcs.is c.arcs_of.result
+          c.arcs_of.ensures;
+      refused = refused_by old new c.args.command.now asked c.in-Arcs.is c.arcs_of.result
+          c.arcs_of.ensures;
+      in_step = c.requires.in_step;
+      stamps = same_stamps _ _ refl;
+    }
+
+pub returns-in-Save : goal.returns-in-Save
+returns-in-Save g c =
+    let w = (watch-value g.row.B g.B.Observer g.B.Observer-dict g.B.Destruct-dict).it in
+    let old = plain_of w c.args.self.now in
+    let new = plain_of w c.args.self.now in
+    let asked = commands.Save c.in-Save.file in
+    record {
+      answered = answered_by old new c.args.command.now asked c.in-Save.is c.save.result
+          c.save.ensures;
+      refused = refused_by old new c.args.command.now asked c.in-Save.is c.save.result
+          c.save.ensures;
+      in_step = c.requires.in_step;
+      stamps = same_stamps _ _ refl;
+    }

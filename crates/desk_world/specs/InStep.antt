@@ -1,0 +1,88 @@
+-- That the seats of a world are in step with its digraph and its tables.
+use Rattle.std.specs.Prelude.{◌≡◌, ℕ, ◌+◌, ◌^◌, ◌≤◌, Bool, true, false, List, [], ◌∷◌, map}
+use Rattle.base_items.specs.declared.items.ItemSort.{ItemSort}
+use Rattle.base_items.specs.declared.limits.TheConstants.{MAX_STAMP}
+use Rattle.plain_digraph.specs.Lists.{AllOf, has}
+use Rattle.observe_core.specs.Seen.{Seen, Watched}
+use Rattle.observe_core.specs.Untold.{TracksNothing}
+use Rattle.notify_chain.specs.Seats.{seat_key}
+use Rattle.alter_graph.specs.Chains.{ChainsSeen, chains_seen, seats_in}
+use Rattle.alter_graph.specs.State as graph
+use Rattle.alter_graph.specs.State.{state_of}
+use Rattle.alter_graph.specs.Attaching.{HasNoCounts}
+use Rattle.plain_world.specs.Valid.{IsWorld}
+use Rattle.desk_world.specs.declared.tables.MapKind.{MapKind}
+use Rattle.desk_world.specs.declared.tables.MapKind.TheVariants as maps
+use Rattle.desk_world.specs.declared.tables.AttributeRow.{AttributeRow}
+use Rattle.desk_world.specs.declared.tables.AttributeRow.TheVariants as rows
+use Rattle.desk_world.specs.declared.world.World.{World}
+use Rattle.desk_world.specs.Looks.{look_in}
+use Rattle.desk_world.specs.Plain.{plain_of}
+use Rattle.desk_world.specs.Claims.{Claim, Guard, Plays, Sits, claims_of, is_claimed}
+use Rattle.desk_world.specs.Claims.{ClaimsDiffer}
+
+-- the keys of the seats of a chain, oldest first
+abbrev pub keys_in : ItemSort → ChainsSeen → List ℕ
+keys_in sort c = map seat_key (seats_in sort c)
+
+-- no key stands twice
+abbrev pub Differ : List ℕ → Type 0
+Differ [] = Unit {0}
+Differ (key ∷ keys) = (has keys key ≡ false) × Differ keys
+
+-- the seats are exactly those that are claimed, each with its role
+pub record AreSeated (claims : List Claim) (c : ChainsSeen) : Type 0 where
+  pub there : AllOf (λ x. Sits x.role (look_in c x.sort x.key)) claims
+  pub no_other : (sort : ItemSort)
+      → AllOf (λ key. is_claimed claims sort key ≡ true) (keys_in sort c)
+  pub claims_differ : ClaimsDiffer claims
+  pub keys_differ : (sort : ItemSort) → Differ (keys_in sort c)
+
+-- a guard that tracks nothing and has counted nothing
+pub record IsBox (s : Seen) : Type 0 where
+  pub guard : Plays Guard s
+  pub empty : TracksNothing s
+  pub counts : HasNoCounts s
+
+-- whether a map has values of its own
+abbrev pub has_values : MapKind → Bool
+has_values maps.Ints = true
+has_values maps.Bools = true
+has_values maps.Texts = true
+has_values (maps.Degrees way) = false
+has_values (maps.Trues map) = false
+
+abbrev pub is_plain : AttributeRow → Bool
+is_plain (rows.Plain text) = true
+is_plain (rows.Tied sort number) = false
+
+-- no command that is run yet makes a guard, a snapshot, a view, a degree, an index or a tie
+pub record IsBare {O : Type 0} (w : World O) : Type 0 where
+  pub guards : w.guards.rows ≡ []
+  pub snapshots : w.snapshots.rows ≡ []
+  pub views : w.views.rows ≡ []
+  pub node_maps : AllOf (λ e. has_values e.value.kind ≡ true) w.nodes.maps.rows
+  pub arc_maps : AllOf (λ e. has_values e.value.kind ≡ true) w.arcs.maps.rows
+  pub attributes : AllOf (λ e. is_plain e.value ≡ true) w.attributes.rows
+
+module _ {O : Type 0} (watch : O → Watched) where
+  -- each box of the pool is a guard that nothing was told
+  abbrev pub AreBoxes : List O → Type 0
+  AreBoxes boxes = AllOf (λ o. IsBox (watch o).seen) boxes
+
+  -- the observers are in step with the digraph, the seats are exactly those that the tables speak
+  -- of, each with its role, and the boxes of the pool were told nothing
+  pub record AreInStep (w : World O) : Type 0 where
+    pub graph : graph.IsInStep (state_of watch w.graph)
+    pub seated : AreSeated (claims_of w) (chains_seen watch w.graph.chains)
+    pub boxes : AreBoxes w.pool.items
+    pub bare : IsBare w
+
+  -- besides, the plain world is valid
+  pub record IsInStep (w : World O) : Type 0 where
+    pub seats : AreInStep w
+    pub valid : IsWorld (plain_of watch w)
+
+-- 2^24 stamps are left
+abbrev pub HasStamps : {O : Type 0} → World O → Type 0
+HasStamps w = w.graph.graph.graph.stamps + 2 ^ 24 ≤ MAX_STAMP

@@ -1,0 +1,155 @@
+//! Maps come, go, and are written to.
+
+ghost use Rattle.std.specs.Prelude.{◌≡◌, false, OnOk, OnErr};
+ghost use Rattle.desk_seats.specs.Contents.{holding, StillFits};
+ghost use Rattle.observe_core.specs.Untold.{TracksNothing};
+ghost use Rattle.alter_graph.specs.Attaching.{HasNoCounts, detached};
+ghost use Rattle.alter_graph.specs.Chains.{chains_seen};
+ghost use Rattle.alter_graph.specs.State.{state_of, IsInStep};
+ghost use Rattle.plain_digraph.specs.Items.{IsLive};
+ghost use Rattle.plain_world.specs.Tables.{has_entry, without_entry};
+ghost use Rattle.plain_world.specs.World.{attached};
+ghost use Rattle.plain_world.specs.Effects.{with_map, with_maps, new_map, with_map_changed};
+ghost use Rattle.desk_world.specs.Claims.{Plays, role_of};
+ghost use Rattle.desk_world.specs.Plain.{plain_of};
+ghost use Rattle.desk_world.specs.InStep.{AreInStep};
+ghost use Rattle.desk_world.specs.Values.{HasType, HasItem, kind_for, type_for, put_at};
+ghost use Rattle.desk_world.specs.Values.{held_with};
+
+use crate::opening::attach;
+use crate::tables::{MapKind, MapRow};
+use crate::values::Value;
+use crate::world::World;
+use alter_graph::Alterable;
+use base_items::ItemSort;
+use desk_seats::Seat;
+use notify_chain::SeatKey;
+use observe_core::Observer;
+use script_words::MapType;
+use std::alloc::{AllocError, Global};
+use token_text::{Text, copy_text};
+use value_maps::{BoolMap, IntMap, TextMap};
+
+/// A map of the type without items.
+fn empty_map<B: Observer>(alloc: Global, kind: MapType) -> Seat<B>
+    ensures role { Plays (role_of (kind_for kind)) (⟦<Seat<B> as Observer>⟧.watch result).seen }
+    ensures empty { TracksNothing (⟦<Seat<B> as Observer>⟧.watch result).seen }
+    ensures counts { HasNoCounts (⟦<Seat<B> as Observer>⟧.watch result).seen }
+{
+    match kind {
+        MapType::Ints => Seat::Ints(IntMap::new(alloc)),
+        MapType::Bools => Seat::Bools(BoolMap::new(alloc)),
+        MapType::Texts => Seat::Texts(TextMap::new(alloc)),
+    }
+}
+
+/// What a map of the type is.
+fn kind_of(kind: MapType) -> MapKind
+    ensures { result ≡ kind_for kind }
+{
+    match kind {
+        MapType::Ints => MapKind::Ints,
+        MapType::Bools => MapKind::Bools,
+        MapType::Texts => MapKind::Texts,
+    }
+}
+
+// Takes the observer of a seat out, and lets it go.
+fn let_go<O: Observer>(graph: &mut Alterable<O>, sort: ItemSort, key: SeatKey)
+    ensures graph { graph.new.graph ≡ graph.old.graph }
+    ensures detached { chains_seen O.watch graph.new.chains
+        ≡ detached sort key.0 (chains_seen O.watch graph.old.chains) }
+    ensures in_step { IsInStep (state_of O.watch graph.old)
+        → IsInStep (state_of O.watch graph.new) }
+{
+    let _ = graph.detach(sort, key);
+}
+
+impl<B: Observer> World<Seat<B>> {
+    /// Makes a map of a new name, with the default of the type at each item. The error is want of
+    /// memory; the plain world is then as before.
+    pub(crate) fn add_map(
+        &mut self,
+        alloc: Global,
+        sort: ItemSort,
+        name: &Text,
+        kind: MapType,
+    ) -> Result<(), AllocError>
+        requires in_step { AreInStep ⟦<Seat<B> as Observer>⟧.watch self.old }
+        requires new { let world = plain_of ⟦<Seat<B> as Observer>⟧.watch self.old in
+            has_entry (attached world sort).maps name.now ≡ false }
+        ensures made { OnOk result (plain_of ⟦<Seat<B> as Observer>⟧.watch self.new
+            ≡ with_map (plain_of ⟦<Seat<B> as Observer>⟧.watch self.old) sort name.now
+            (new_map (plain_of ⟦<Seat<B> as Observer>⟧.watch self.old) sort kind)) }
+        ensures same { OnErr result (plain_of ⟦<Seat<B> as Observer>⟧.watch self.new
+            ≡ plain_of ⟦<Seat<B> as Observer>⟧.watch self.old) }
+        ensures in_step { AreInStep ⟦<Seat<B> as Observer>⟧.watch self.new }
+        ensures graph { self.new.graph.graph.graph ≡ self.old.graph.graph.graph }
+        ensures pool { self.new.pool ≡ self.old.pool }
+    {
+        let name = copy_text(alloc, name.as_bytes())?;
+        self.reserve_map(sort)?;
+        let key = attach(alloc, &mut self.graph, sort, empty_map(alloc, kind))?;
+        let kind = kind_of(kind);
+        self.put_map(sort, name, MapRow { kind, key });
+        Ok(())
+    }
+
+    /// Takes a map out.
+    pub(crate) fn remove_map(&mut self, sort: ItemSort, name: &Text)
+        requires in_step { AreInStep ⟦<Seat<B> as Observer>⟧.watch self.old }
+        ensures gone { plain_of ⟦<Seat<B> as Observer>⟧.watch self.new
+            ≡ with_maps (plain_of ⟦<Seat<B> as Observer>⟧.watch self.old) sort
+            (without_entry (attached (plain_of ⟦<Seat<B> as Observer>⟧.watch self.old) sort).maps
+            name.now) }
+        ensures in_step { AreInStep ⟦<Seat<B> as Observer>⟧.watch self.new }
+        ensures graph { self.new.graph.graph ≡ self.old.graph.graph }
+    {
+        match self.take_map(sort, name) {
+            None => {}
+            Some(row) => let_go(&mut self.graph, sort, row.key),
+        }
+    }
+
+    /// Writes the value of a live item to a map of its type.
+    pub(crate) fn write_value(&mut self, sort: ItemSort, map: &Text, id: u32, value: Value)
+        requires in_step { AreInStep ⟦<Seat<B> as Observer>⟧.watch self.old }
+        requires live { IsLive self.old.graph.graph.graph sort id }
+        requires of_type { HasType (plain_of ⟦<Seat<B> as Observer>⟧.watch self.old) sort map.now
+            (type_for value) }
+        ensures written { plain_of ⟦<Seat<B> as Observer>⟧.watch self.new
+            ≡ with_map_changed (plain_of ⟦<Seat<B> as Observer>⟧.watch self.old) sort map.now
+            (put_at value id) }
+        ensures in_step { AreInStep ⟦<Seat<B> as Observer>⟧.watch self.new }
+        ensures graph { self.new.graph.graph ≡ self.old.graph.graph }
+        ensures pool { self.new.pool ≡ self.old.pool }
+    {
+        let Some(row) = self.tables(sort).maps.get(map) else {
+            unreachable!()
+        };
+        let key = row.key;
+        match self.graph.seat_mut(sort, key) {
+            None => unreachable!(),
+            Some(seat) => write_to(seat, id, value),
+        }
+    }
+}
+
+/// Writes a value to what a seat holds.
+fn write_to<B: Observer>(seat: &mut Seat<B>, id: u32, value: Value)
+    requires role { Plays (role_of (kind_for (type_for value)))
+        (⟦<Seat<B> as Observer>⟧.watch seat.old).seen }
+    requires live { HasItem value id (⟦<Seat<B> as Observer>⟧.watch seat.old).seen }
+    ensures seen { let old = (⟦<Seat<B> as Observer>⟧.watch seat.old).seen in
+        (⟦<Seat<B> as Observer>⟧.watch seat.new).seen ≡ holding (held_with value id old) old }
+    ensures fits { StillFits (⟦<Seat<B> as Observer>⟧.watch seat.old).seen
+        (⟦<Seat<B> as Observer>⟧.watch seat.new).seen }
+{
+    match value {
+        Value::Int(value) => seat.set_int(id, value),
+        Value::Bool(value) => seat.set_bool(id, value),
+        Value::Text(value) => {
+            let _ = seat.set_text(id, value);
+        }
+    }
+}

@@ -1,0 +1,67 @@
+//! What stands under the names of a world, beside the seats of its observers.
+
+ghost use Rattle.std.specs.Prelude.{◌≡◌, []};
+
+use base_items::ItemSort;
+use desk_names::NameTable;
+use notify_chain::SeatKey;
+use script_words::{Direction, LayerWord};
+use std::alloc::Global;
+use token_text::Text;
+
+/// What a map is: a map of values, the degrees of nodes, or the true items of a bool map.
+#[derive(Drop)]
+pub enum MapKind {
+    Ints,
+    Bools,
+    Texts,
+    Degrees(Direction),
+    /// The name of the bool map.
+    Trues(Text),
+}
+
+/// A map, and the key of its seat. Degrees sit in the chain of the arcs, every other map in that of
+/// its items.
+#[derive(Drop)]
+pub struct MapRow {
+    pub kind: MapKind,
+    pub key: SeatKey,
+}
+
+/// What is attached to the items of a sort: the seats of their labels and of the attributes that
+/// are tied to them, and their maps.
+#[derive(Drop)]
+pub struct ItemTables {
+    pub labels: SeatKey,
+    pub ties: SeatKey,
+    pub maps: NameTable<MapRow>,
+}
+
+/// The seat of a guard.
+#[derive(Clone, Copy)]
+pub struct GuardRow {
+    pub sort: ItemSort,
+    pub key: SeatKey,
+}
+
+/// The seats of a kept view: of its nodes, and of its arcs.
+#[derive(Clone, Copy)]
+pub struct KeptKeys {
+    pub nodes: SeatKey,
+    pub arcs: SeatKey,
+}
+
+/// A view over another, and its seats if it is kept.
+#[derive(Drop)]
+pub struct ViewRow {
+    pub layer: LayerWord,
+    pub below: Text,
+    pub kept: Option<KeptKeys>,
+}
+
+/// An attribute: plain text, or the number of a tie to an item of the sort.
+#[derive(Drop)]
+pub enum AttributeRow {
+    Plain(Text),
+    Tied(ItemSort, u32),
+}

@@ -1,0 +1,5 @@
+mod Alike
+pub mod Apart
+pub mod Once
+mod Stepped
+mod Ended

@@ -1,0 +1,4 @@
+pub mod Handing
+pub mod Opening
+pub mod Refused
+pub mod Unhanded
