@@ -1,0 +1,4 @@
+pub mod Rows
+pub mod Laying
+pub mod Reading
+pub mod Carrying
