@@ -1,6 +1,6 @@
 -- What is gathered of a digraph before an alteration.
-use Rattle.std.proofs.Common.{◌≡◌, ℕ, zero, suc, ◌+◌, ◌<◌, ◌==◌, List, [], ◌∷◌, ◌++◌, Option, Some}
-use Rattle.std.proofs.Common.{get_or, length, sym, ap, subst, ◌∙◌, arith}
+use Rattle.std.proofs.Common.{◌≡◌, ℕ, zero, suc, ◌+◌, ◌==◌, [], ◌∷◌, ◌++◌, Option, Some}
+use Rattle.std.proofs.Common.{sym, ap, subst, ◌∙◌, arith}
 use Rattle.std.proofs.lemmas.List.Elements.{filter_map-append}
 use Rattle.std.specs.Option.{option_map_or}
 use Rattle.std.specs.List.{filter_map, cons_option, range_with_len}
@@ -9,7 +9,6 @@ use Rattle.std.specs.Prelude.{not}
 use Rattle.std.proofs.lemmas.Grind.{common_steps}
 use Rattle.base_items.specs.declared.items.Fact.{Fact}
 use Rattle.base_items.specs.declared.items.ItemSort.TheVariants as sorts
-use Rattle.plain_digraph.specs.Lists.{AllOf}
 use Rattle.plain_digraph.specs.Digraph.{Digraph}
 use Rattle.plain_digraph.specs.Items.{IsLive, source_of, target_of, stamp_of}
 use Rattle.plain_digraph.specs.Alterations.{is_neither}
@@ -62,9 +61,3 @@ pub is_neither_else : (u v end node : ℕ) → end ≡ node → end ≡ u
     → not (end == u) ≡ is_neither u v node
 is_neither_else u v end node e same =
     subst (λ n. not (end == u) ≡ is_neither u v n) e (grind (arith, common_steps, same))
-
-pub live_at : (g : Digraph) (arcs : List ℕ) (i d : ℕ) → i < length arcs
-    → AllOf (IsLive g sorts.Arc) arcs → IsLive g sorts.Arc (get_or arcs i d)
-live_at g [] i d l h = absurd (omega arith)
-live_at g (a ∷ arcs) zero d l h = h.0
-live_at g (a ∷ arcs) (suc i) d l h = live_at g arcs i d (omega (arith, l)) h.1

@@ -34,3 +34,4 @@ pub mod Added
 pub mod Reverted
 pub mod Tied
 pub mod Declined
+pub mod Pushed

@@ -10,15 +10,16 @@ ghost use Rattle.alter_graph.specs.Outcome.{Alters, Stays};
 ghost use Rattle.alter_graph.specs.Contraction.{contraction_of, Contracts, Keeps};
 
 use crate::faults::AlterFault;
-use crate::gathering::{
-    arcs_from, arcs_to, push_sources, push_targets, with_source_apart, with_target_apart,
-};
+use crate::gathering::{push_inward, push_outward};
 use crate::graph::Alterable;
 use crate::steps::Step;
 use base_items::{ItemSort, Node};
 use list_digraph::ListDigraph;
 use observe_core::Observer;
 use std::alloc::{AllocError, Global};
+
+// Room for so many moves is made at once.
+const USUAL_MOVES: usize = 16;
 
 /// All moves of a contraction of v into u. Those of targets are known before those of sources.
 fn contraction_steps(
@@ -33,18 +34,9 @@ fn contraction_steps(
     ensures { IfOk result (λ steps. plain_steps steps.items
         ≡ refusable_steps graph.now.graph (contraction_of loops u v)) }
 {
-    let sources = arcs_from(graph, v, alloc)?;
-    let targets = arcs_to(graph, v, alloc)?;
-    let mut steps = Vec::new(alloc);
-    if loops {
-        push_sources(&mut steps, sources.as_slice(), u)?;
-        push_targets(&mut steps, targets.as_slice(), u)?;
-        return Ok(steps);
-    }
-    let outward = with_target_apart(graph, sources.as_slice(), u, v, alloc)?;
-    let inward = with_source_apart(graph, targets.as_slice(), u, v, alloc)?;
-    push_sources(&mut steps, outward.as_slice(), u)?;
-    push_targets(&mut steps, inward.as_slice(), u)?;
+    let mut steps = Vec::with_capacity(alloc, USUAL_MOVES)?;
+    push_outward(graph, &mut steps, u, v, loops)?;
+    push_inward(graph, &mut steps, u, v, loops)?;
     Ok(steps)
 }
 

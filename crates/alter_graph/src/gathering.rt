@@ -1,7 +1,6 @@
 //! The items of a part of an alteration, gathered before it begins.
 
-ghost use Rattle.std.specs.Prelude.{◌≡◌, ◌++◌, filter, OnOk, IfOk};
-ghost use Rattle.plain_digraph.specs.Lists.{AllOf};
+ghost use Rattle.std.specs.Prelude.{◌≡◌, ◌||◌, ◌++◌, filter, OnOk, IfOk};
 ghost use Rattle.plain_digraph.specs.Items.{IsLive, facts, out_arcs, in_arcs, source_of, target_of};
 ghost use Rattle.plain_digraph.specs.Alterations as alterations;
 ghost use Rattle.plain_digraph.specs.Valid.{IsValid};
@@ -44,21 +43,6 @@ pub fn arcs_from(graph: &ListDigraph, n: Node, alloc: Global) -> Result<Vec<u32>
     Ok(arcs)
 }
 
-/// The arcs to a node, the newest place first.
-pub fn arcs_to(graph: &ListDigraph, n: Node, alloc: Global) -> Result<Vec<u32>, AllocError>
-    requires valid { IsValid graph.now.graph }
-    requires live { IsLive graph.now.graph ItemSort.Node n.0 }
-    ensures { IfOk result (λ arcs. arcs.items ≡ in_arcs graph.now.graph n.0) }
-{
-    let mut arcs = Vec::new(alloc);
-    let mut next = graph.first_in(n);
-    'arcs: while let Some(arc) = next {
-        arcs.push(arc.0)?;
-        next = graph.next_in(arc);
-    }
-    Ok(arcs)
-}
-
 // Whether the target of an arc is neither of two nodes.
 fn goes_elsewhere(graph: &ListDigraph, arc: u32, u: Node, v: Node) -> bool
     requires valid { IsValid graph.now.graph }
@@ -79,50 +63,6 @@ fn comes_from_elsewhere(graph: &ListDigraph, arc: u32, u: Node, v: Node) -> bool
     end != u.0 && end != v.0
 }
 
-/// Those of the arcs whose targets are neither of two nodes.
-pub fn with_target_apart(
-    graph: &ListDigraph,
-    arcs: &[u32],
-    u: Node,
-    v: Node,
-    alloc: Global,
-) -> Result<Vec<u32>, AllocError>
-    requires valid { IsValid graph.now.graph }
-    requires live { AllOf (IsLive graph.now.graph ItemSort.Arc) arcs.now }
-    ensures { IfOk result (λ kept. kept.items ≡ filter
-        (λ arc. alterations.is_neither u.0 v.0 (target_of graph.now.graph arc)) arcs.now) }
-{
-    let mut kept = Vec::new(alloc);
-    for arc in arcs {
-        if goes_elsewhere(graph, *arc, u, v) {
-            kept.push(*arc)?;
-        }
-    }
-    Ok(kept)
-}
-
-/// Those of the arcs whose sources are neither of two nodes.
-pub fn with_source_apart(
-    graph: &ListDigraph,
-    arcs: &[u32],
-    u: Node,
-    v: Node,
-    alloc: Global,
-) -> Result<Vec<u32>, AllocError>
-    requires valid { IsValid graph.now.graph }
-    requires live { AllOf (IsLive graph.now.graph ItemSort.Arc) arcs.now }
-    ensures { IfOk result (λ kept. kept.items ≡ filter
-        (λ arc. alterations.is_neither u.0 v.0 (source_of graph.now.graph arc)) arcs.now) }
-{
-    let mut kept = Vec::new(alloc);
-    for arc in arcs {
-        if comes_from_elsewhere(graph, *arc, u, v) {
-            kept.push(*arc)?;
-        }
-    }
-    Ok(kept)
-}
-
 /// The moves of these arcs' sources to a node, behind other steps.
 pub fn push_sources(steps: &mut Vec<Step>, arcs: &[u32], u: Node) -> Result<(), AllocError>
     ensures { OnOk result (plain_steps steps.new.items
@@ -134,13 +74,78 @@ pub fn push_sources(steps: &mut Vec<Step>, arcs: &[u32], u: Node) -> Result<(), 
     Ok(())
 }
 
-/// The moves of these arcs' targets to a node, behind other steps.
-pub fn push_targets(steps: &mut Vec<Step>, arcs: &[u32], v: Node) -> Result<(), AllocError>
-    ensures { OnOk result (plain_steps steps.new.items
-        ≡ plain_steps steps.old.items ++ alterations.targets_to v.0 arcs.now) }
+// Whether an arc from v goes over: where `all`, or where its target is neither of the two.
+fn goes_over(graph: &ListDigraph, arc: u32, u: Node, v: Node, all: bool) -> bool
+    requires valid { IsValid graph.now.graph }
+    requires live { IsLive graph.now.graph ItemSort.Arc arc }
+    ensures { result ≡ (all || alterations.is_neither u.0 v.0 (target_of graph.now.graph arc)) }
 {
-    for arc in arcs {
-        steps.push(Step::MoveTo(Arc(*arc), v))?;
+    if all {
+        return true;
+    }
+    goes_elsewhere(graph, arc, u, v)
+}
+
+// Whether an arc to v comes over: where `all`, or where its source is neither of the two.
+fn comes_over(graph: &ListDigraph, arc: u32, u: Node, v: Node, all: bool) -> bool
+    requires valid { IsValid graph.now.graph }
+    requires live { IsLive graph.now.graph ItemSort.Arc arc }
+    ensures { result ≡ (all || alterations.is_neither u.0 v.0 (source_of graph.now.graph arc)) }
+{
+    if all {
+        return true;
+    }
+    comes_from_elsewhere(graph, arc, u, v)
+}
+
+/// The moves to u of the sources of the arcs from v, or of those whose targets are neither of the
+/// two, behind other steps; the newest place comes first.
+pub fn push_outward(
+    graph: &ListDigraph,
+    steps: &mut Vec<Step>,
+    u: Node,
+    v: Node,
+    all: bool,
+) -> Result<(), AllocError>
+    requires valid { IsValid graph.now.graph }
+    requires live { IsLive graph.now.graph ItemSort.Node v.0 }
+    ensures { OnOk result (plain_steps steps.new.items ≡ plain_steps steps.old.items
+        ++ alterations.sources_to u.0 (filter
+        (λ arc. all || alterations.is_neither u.0 v.0 (target_of graph.now.graph arc))
+        (out_arcs graph.now.graph v.0))) }
+{
+    let mut next = graph.first_out(v);
+    'arcs: while let Some(arc) = next {
+        if goes_over(graph, arc.0, u, v, all) {
+            steps.push(Step::MoveFrom(arc, u))?;
+        }
+        next = graph.next_out(arc);
+    }
+    Ok(())
+}
+
+/// The moves to u of the targets of the arcs to v, or of those whose sources are neither of the
+/// two, behind other steps; the newest place comes first.
+pub fn push_inward(
+    graph: &ListDigraph,
+    steps: &mut Vec<Step>,
+    u: Node,
+    v: Node,
+    all: bool,
+) -> Result<(), AllocError>
+    requires valid { IsValid graph.now.graph }
+    requires live { IsLive graph.now.graph ItemSort.Node v.0 }
+    ensures { OnOk result (plain_steps steps.new.items ≡ plain_steps steps.old.items
+        ++ alterations.targets_to u.0 (filter
+        (λ arc. all || alterations.is_neither u.0 v.0 (source_of graph.now.graph arc))
+        (in_arcs graph.now.graph v.0))) }
+{
+    let mut next = graph.first_in(v);
+    'arcs: while let Some(arc) = next {
+        if comes_over(graph, arc.0, u, v, all) {
+            steps.push(Step::MoveTo(arc, u))?;
+        }
+        next = graph.next_in(arc);
     }
     Ok(())
 }

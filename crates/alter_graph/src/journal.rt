@@ -116,6 +116,8 @@ impl<O: Observer> Alterable<O> {
         ensures fails { IfErr result (Fails (plain_steps steps.now) (state_of O.watch self.old)
             (state_of O.watch self.new) journal.old.items) }
     {
+        // Room for all of them at once; where it is wanting, the step that has none says so.
+        let _ = journal.reserve(steps.len());
         for step in steps {
             if let Err(fault) = self.attempt(*step, journal) {
                 return Err(fault);

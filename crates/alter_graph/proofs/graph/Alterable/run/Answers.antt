@@ -5,7 +5,7 @@ use Rattle.plain_digraph.specs.PlainSteps.{PlainStep}
 use Rattle.alter_graph.specs.declared.steps.Step.{Step}
 use Rattle.alter_graph.specs.declared.steps.Step.TheVariants.{AddNode}
 use Rattle.alter_graph.specs.State.{State, state_of}
-use Rattle.alter_graph.specs.Steps.{plain_step, plain_steps, CanTakeAll, HaveOwnPlaces}
+use Rattle.alter_graph.specs.Steps.{plain_step, plain_steps, CanTakeAll, HaveOwnPlaces, CanUndo}
 use Rattle.alter_graph.specs.Parts.{Takes, Fails}
 use Rattle.alter_graph.proofs.OwnPlaces.{own_after}
 use Rattle.alter_graph.proofs.Parting.{takes_none, takes_both, fails_later, fails_first}
@@ -38,8 +38,9 @@ whole i xs l = ap (λ a. a ++ plain_steps (drop (i + 1) xs)) (sym (more i xs l))
 
 pub loop-step-init : goal.loop-step-init
 loop-step-init g c = record {
-  takes = takes_none (state_of g.O.Observer.watch c.args.self.now) c.args.journal.now.items
-      c.requires.step c.requires.undo;
+  takes = let s : State = state_of g.O.Observer.watch c.args.self.now in
+      takes_none s c.reserve.new.self.items c.requires.step
+      (subst (λ l. CanUndo l s) (sym c.reserve.ensures.items) c.requires.undo);
   can = c.requires.can;
   own = c.requires.own;
 }
@@ -86,9 +87,9 @@ loop-step-preserved g c =
     c.in_default.ensures.takes in
     record {
       takes =
-          subst (λ l. Takes l s u c.args.journal.now.items c.attempt.new.journal.items)
+          subst (λ l. Takes l s u c.reserve.new.self.items c.attempt.new.journal.items)
           (sym (more i xs c.loop-step-test.true))
-          (takes_both (plain_steps (take i xs)) one s t u c.args.journal.now.items
+          (takes_both (plain_steps (take i xs)) one s t u c.reserve.new.self.items
           c.loop-step.journal.items c.attempt.new.journal.items (all_refusable (take i xs))
           c.loop-step.invariant.takes took);
       can = can_take_after one (plain_steps (drop (i + 1) xs)) t u took.goes.took h;
@@ -103,19 +104,21 @@ returns-in-Err-clause-fails g c =
     let i = c.loop-step.step-index in
     let xs = c.args.steps.now in
     let one : List PlainStep = plain_step (get_or xs i AddNode) ∷ [] in
-    let before = c.args.journal.now.items in
-    subst (λ l. Fails l s u before c.in-Err.fault) (whole i xs c.loop-step-test.true)
+    let before = c.reserve.new.self.items in
+    subst (λ b. Fails (plain_steps xs) s u b c.in-Err.fault) c.reserve.ensures.items
+    (subst (λ l. Fails l s u before c.in-Err.fault) (whole i xs c.loop-step-test.true)
     (fails_first (plain_steps (take i xs) ++ one) (plain_steps (drop (i + 1) xs)) s u before
     c.in-Err.fault
     (fails_later (plain_steps (take i xs)) one s t u before c.loop-step.journal.items
     c.in-Err.fault (all_refusable (take i xs)) c.loop-step.invariant.takes
-    c.in-Err.ensures.fails))
+    c.in-Err.ensures.fails)))
 
 pub returns-clause-takes : goal.returns-clause-takes
 returns-clause-takes g c =
     let s : State = state_of g.O.Observer.watch c.args.self.now in
     let t : State = state_of g.O.Observer.watch c.loop-step.self in
-    subst
-    (λ l. Takes (plain_steps l) s t c.args.journal.now.items c.loop-step.journal.items)
+    subst (λ b. Takes (plain_steps c.args.steps.now) s t b c.loop-step.journal.items)
+    c.reserve.ensures.items (subst
+    (λ l. Takes (plain_steps l) s t c.reserve.new.self.items c.loop-step.journal.items)
     (take_all c.loop-step.step-index c.args.steps.now c.loop-step-test.false)
-    c.loop-step.invariant.takes
+    c.loop-step.invariant.takes)
