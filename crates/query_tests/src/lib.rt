@@ -4,3 +4,8 @@
 
 #[cfg(test)]
 mod builds;
+#[cfg(test)]
+mod paths;
+mod tasks;
+
+pub use tasks::{are_within, digraph};
