@@ -116,3 +116,16 @@ module _ {V : Type 0} where
       let names = map (λ (e : Named V). e.name) (rows_of es) in
       or_from (is_among e.0 names) (has_twice names) (none_among e.0 es distinct.0)
       (names_differ es distinct.1)
+
+  pub rows_filtered : (test : V → Bool) (es : List (Name × V))
+      → rows_of (filter (λ e. test e.1) es) ≡ filter (λ (n : Named V). test n.value) (rows_of es)
+  rows_filtered test [] = refl
+  rows_filtered test (e ∷ es) =
+      let rest = rows_filtered test es in
+      elim (test e.1) as (λ b.
+      rows_of (cond b (e ∷ filter (λ x. test x.1) es) (filter (λ x. test x.1) es))
+      ≡ cond b (under e.0 e.1 ∷ filter (λ n. test n.value) (rows_of es))
+      (filter (λ n. test n.value) (rows_of es))) [
+        | true ↦ λ i. under e.0 e.1 ∷ rest i
+        | false ↦ rest
+      ]

@@ -3,4 +3,4 @@
 
 mod name_table;
 
-pub use name_table::NameTable;
+pub use name_table::{Keeps, NameTable};

@@ -20,6 +20,18 @@ pub struct NameTable<V> {
     entries: IndexMap<Text, V>,
 }
 
+/// A test of values: which of them a table keeps.
+pub trait Keeps<V> {
+    ghost use Rattle.std.specs.Prelude.{Bool};
+
+    /// Whether the value passes.
+    ghost kept: { Self → V → Bool };
+
+    /// Whether a table keeps the value.
+    fn keeps(&self, value: &V) -> bool
+        ensures { result ≡ kept self.now value.now };
+}
+
 impl<V> Model for NameTable<V> {
     ghost use Rattle.std.specs.Str.{bytes_eq};
     ghost use Rattle.indexmap.specs.IndexMap.{IsUnique, spare};
@@ -126,5 +138,19 @@ impl<V: Drop> NameTable<V> {
         ensures room { self.old.room ≤ self.new.room }
     {
         self.entries.shift_remove(name)
+    }
+
+    ghost use Rattle.std.specs.Prelude.{filter};
+
+    /// Keeps the names whose values pass the test, in their order. It takes no memory.
+    pub fn retain<T: Keeps<V>>(&mut self, test: &T)
+        ensures rows { self.new.rows ≡ filter (λ e. T.kept test.now e.value) self.old.rows }
+        ensures room { self.old.room ≤ self.new.room }
+    {
+        self.entries.retain(
+            |_name: &Text, value: &mut V| -> bool
+                ensures { (result ≡ T.kept test.entry.now value.old) × (value.new ≡ value.old) }
+            { test.keeps(&*value) },
+        );
     }
 }

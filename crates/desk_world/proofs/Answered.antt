@@ -1,35 +1,31 @@
 -- What an addition answers, and the world that it leaves.
 use Rattle.std.proofs.Common.{◌≡◌, ℕ, ◌+◌, ◌<◌, ◌≤◌, List, [], ◌∷◌, refl, sym, ap}
-use Rattle.std.proofs.Common.{subst, Option, Some, None, ◌∙◌, arith}
-use Rattle.std.specs.Prelude.{option_map, is_some, unwrap_or}
-use Rattle.std.specs.Option.{option_or}
+use Rattle.std.proofs.Common.{subst, Some, None, ◌∙◌, arith}
+use Rattle.std.specs.Prelude.{is_some, unwrap_or}
 use Rattle.base_items.specs.declared.items.ItemSort.{ItemSort}
 use Rattle.base_items.specs.declared.items.ItemSort.TheVariants as sorts
 use Rattle.base_items.specs.declared.limits.TheConstants.{MAX_STAMP}
 use Rattle.script_words.specs.declared.commands.Command.{Command}
 use Rattle.script_words.specs.declared.commands.Command.TheVariants as commands
 use Rattle.script_words.specs.Valid as script
-use Rattle.report_text.specs.declared.faults.Fault.TheVariants as faults
 use Rattle.report_text.specs.declared.faults.StepFault.{StepFault}
 use Rattle.report_text.specs.declared.replies.Reply.TheVariants.{Quiet}
-use Rattle.plain_digraph.specs.Digraph.{Digraph}
 use Rattle.plain_digraph.specs.Items.{IsLive}
 use Rattle.plain_digraph.specs.Steps.{new_node, new_arc}
 use Rattle.plain_digraph.specs.PlainSteps.{PlainStep, AddNode, AddArc}
-use Rattle.plain_digraph.specs.PlainSteps.{after_step}
-use Rattle.plain_digraph.specs.Alterations.{Alteration, single, refusable_steps, vetoer}
+use Rattle.plain_digraph.specs.Alterations.{single}
 use Rattle.plain_digraph.specs.Valid as digraph
 use Rattle.observe_core.specs.Seen.{Watched}
 use Rattle.alter_graph.specs.Room.{HasRoomFor}
 use Rattle.plain_world.specs.declared.answers.Answer.{Answer}
 use Rattle.plain_world.specs.declared.answers.Answer.TheVariants.{Answered}
-use Rattle.plain_world.specs.Tables.{Name, Named}
+use Rattle.plain_world.specs.Tables.{Name}
 use Rattle.plain_world.specs.World as plain
 use Rattle.plain_world.specs.Following.{follow, labelled, new_item}
 use Rattle.plain_world.specs.Demands as demand
-use Rattle.plain_world.specs.Demands.{item_named}
+use Rattle.plain_world.specs.Demands.{demands, item_named}
 use Rattle.plain_world.specs.Altering.{item_at}
-use Rattle.plain_world.specs.Refusals.{breach, refuses, veto_of}
+use Rattle.plain_world.specs.Refusals.{breach, veto_of}
 use Rattle.plain_world.specs.Laws.{stamps_taken}
 use Rattle.plain_world.specs.Steps.{Step}
 use Rattle.plain_world.specs.Valid.{IsWorld}
@@ -39,27 +35,9 @@ use Rattle.plain_world.proofs.DemandsMet.{room}
 use Rattle.plain_world.proofs.TablesKept.{named_live}
 use Rattle.desk_world.specs.declared.world.World.{World}
 use Rattle.desk_world.specs.Faults.{Is}
-use Rattle.desk_world.specs.InStep.{AreInStep, IsInStep, IsBare}
-use Rattle.desk_world.specs.Looks.{looked}
-use Rattle.desk_world.specs.Plain.{plain_of, look_of, guard_seen}
-use Rattle.desk_world.proofs.Demanded.{refused, met, not_met}
-
--- a world without guards vetoes nothing
-no_veto : (world : plain.World) → world.guards ≡ [] → (alteration : Alteration)
-    → veto_of world alteration ≡ None
-no_veto world none alteration =
-    let steps = refusable_steps world.graph alteration in
-    let told : Option (Named plain.Guard) → _ = option_map (λ guard. faults.Vetoed guard.name) in
-    ap (λ guards. told (vetoer refuses guards world.graph steps)) none
-    ∙ ap told (nobody world.graph steps)
-  where
-    nobody : (g : Digraph) (steps : List PlainStep) → vetoer refuses [] g steps ≡ None
-    nobody g [] = refl
-    nobody g (step ∷ steps) = nobody (after_step g step) steps
-
-pub no_guards : {O : Type 0} (watch : O → Watched) (w : World O) → IsBare w
-    → (plain_of watch w).guards ≡ []
-no_guards watch w bare = ap (looked (guard_seen (look_of watch w))) bare.guards
+use Rattle.desk_world.specs.InStep.{AreInStep, IsInStep}
+use Rattle.desk_world.specs.Plain.{plain_of}
+use Rattle.desk_world.proofs.Demanded.{fault_of, refused, met, not_met, both_met, not_vetoed}
 
 -- the world that an addition and a label lead to
 pub labelled_then : (world now then later : plain.World) (step asked : PlainStep)
@@ -78,32 +56,49 @@ item_found world sort name id valid is =
     let at : item_at world sort name ≡ id = ap (λ o. unwrap_or o 0) is in
     (subst (IsLive world.graph sort) at (named_live world sort name valid (ap is_some is)), sym at)
 
-module _ (world : plain.World) (none : world.guards ≡ []) (label : Name) where
-  pub node_answered : (later : plain.World)
-      → breach world (demand.New (demand.Labels sorts.Node) label) ≡ None
+module _ (world : plain.World) (label : Name) where
+  pub node_met : breach world (demand.New (demand.Labels sorts.Node) label) ≡ None
       → breach world (demand.HasRoom 1 0) ≡ None
+      → fault_of world (demands (commands.AddNode label)) ≡ None
+  node_met new roomy =
+      both_met world (demand.New (demand.Labels sorts.Node) label) (demand.HasRoom 1 0 ∷ []) new
+      (both_met world (demand.HasRoom 1 0) [] roomy refl)
+
+  pub node_answered : (later : plain.World)
+      → fault_of world (demands (commands.AddNode label)) ≡ None
+      → veto_of world (single AddNode) ≡ None
       → later ≡ labelled (follow world AddNode) sorts.Node (new_node world.graph) label
       → Step world (commands.AddNode label) (Answered Quiet) later
-  node_answered later new roomy is = (
-    (λ i. option_or (option_or (new i) (option_or (roomy i) None)) (no_veto world none
-        (single AddNode) i)),
-    (refl, is),
-  )
+  node_answered later all_met none is =
+      (not_vetoed world (commands.AddNode label) (single AddNode) all_met refl none, (refl, is))
 
-  pub arc_answered : (from to : Name) (later : plain.World)
-      → breach world (demand.There (demand.Labels sorts.Node) from) ≡ None
-      → breach world (demand.There (demand.Labels sorts.Node) to) ≡ None
-      → breach world (demand.New (demand.Labels sorts.Arc) label) ≡ None
-      → breach world (demand.HasRoom 0 1) ≡ None
-      → later ≡ labelled (follow world (AddArc (item_at world sorts.Node from)
-      (item_at world sorts.Node to))) sorts.Arc (new_arc world.graph) label
-      → Step world (commands.AddArc label from to) (Answered Quiet) later
-  arc_answered from to later source target new roomy is = (
-    (λ i. option_or (option_or (source i) (option_or (target i) (option_or (new i)
-        (option_or (roomy i) None)))) (no_veto world none
-        (single (AddArc (item_at world sorts.Node from) (item_at world sorts.Node to))) i)),
-    (refl, is),
-  )
+  module _ (from to : Name) where
+    -- the arc as it is asked for
+    abbrev pub arc_asked : PlainStep
+    arc_asked = AddArc (item_at world sorts.Node from) (item_at world sorts.Node to)
+
+    pub arc_met : breach world (demand.There (demand.Labels sorts.Node) from) ≡ None
+        → breach world (demand.There (demand.Labels sorts.Node) to) ≡ None
+        → breach world (demand.New (demand.Labels sorts.Arc) label) ≡ None
+        → breach world (demand.HasRoom 0 1) ≡ None
+        → fault_of world (demands (commands.AddArc label from to)) ≡ None
+    arc_met source target new roomy =
+        let there = demand.There (demand.Labels sorts.Node) to in
+        let unused = demand.New (demand.Labels sorts.Arc) label in
+        let room = demand.HasRoom 0 1 ∷ [] in
+        both_met world (demand.There (demand.Labels sorts.Node) from) (there ∷ unused ∷ room) source
+        (both_met world there (unused ∷ room) target
+        (both_met world unused room new (both_met world (demand.HasRoom 0 1) [] roomy refl)))
+
+    pub arc_answered : (later : plain.World)
+        → fault_of world (demands (commands.AddArc label from to)) ≡ None
+        → veto_of world (single arc_asked) ≡ None
+        → later ≡ labelled (follow world arc_asked) sorts.Arc (new_arc world.graph) label
+        → Step world (commands.AddArc label from to) (Answered Quiet) later
+    arc_answered later all_met none is = (
+      not_vetoed world (commands.AddArc label from to) (single arc_asked) all_met refl none,
+      (refl, is),
+    )
 
 -- the answer leaves the world in step
 pub answered_in_step : {O : Type 0} (watch : O → Watched) (w : World O) (old : plain.World)

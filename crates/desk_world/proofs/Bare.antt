@@ -193,7 +193,6 @@ module _ {O : Type 0} (watch : O → Watched) (w : World O) (s0 s2 : State)
     seated = seated;
     boxes = boxes;
     bare = record {
-      guards = no_guards;
       snapshots = no_snapshots;
       views = no_views;
       node_maps = subst (AllOf (λ e. has_values e.value.kind ≡ true)) (sym nodes.no_maps) tt;

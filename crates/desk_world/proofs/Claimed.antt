@@ -1,11 +1,12 @@
 -- Seats that come and go with their claims.
 use Rattle.std.proofs.Common.{◌≡◌, ℕ, Bool, true, false, cond, List, [], ◌∷◌, ◌++◌, map, refl, sym}
 use Rattle.std.proofs.Common.{ap}
-use Rattle.std.proofs.Common.{subst, Option, Some, None, ◌∙◌, inl, inr}
+use Rattle.std.proofs.Common.{subst, Option, Some, None, ◌∙◌, inl, inr, not}
 use Rattle.std.specs.Prelude.{◌==◌, ◌&&◌, ◌||◌, option_map}
 use Rattle.std.specs.Option.{option_or}
 use Rattle.std.proofs.lemmas.Bool.{cases_eq, eq-eqb, ne_eqb, true≢false, or_parts, or_from, or_left}
 use Rattle.std.proofs.lemmas.Bool.{or_right}
+use Rattle.std.proofs.lemmas.List.{append-nil}
 use Rattle.std.proofs.lemmas.List.Folds.{list_any-append}
 use Rattle.std.proofs.lemmas.Option.{none-some}
 use Rattle.base_items.specs.declared.items.ItemSort.{ItemSort}
@@ -16,14 +17,19 @@ use Rattle.plain_digraph.specs.Rising.{without_item}
 use Rattle.observe_core.specs.Seen.{Seen, Watched}
 use Rattle.observe_core.specs.Told.{built}
 use Rattle.notify_chain.specs.Seats.{SeatSeen, seat_key, find_seat}
-use Rattle.alter_graph.specs.Chains.{ChainsSeen, seats_in}
+use Rattle.alter_graph.specs.Chains.{ChainsSeen, chain_in, seats_in}
 use Rattle.alter_graph.specs.Attaching.{Attaches, detached, with_seats}
 use Rattle.alter_graph.specs.State.{State}
 use Rattle.alter_graph.specs.Verdict.{is_sort}
 use Rattle.desk_world.specs.Claims.{Claim, Role, Plays, Sits, claim, is_claimed, ClaimsDiffer}
-use Rattle.desk_world.specs.InStep.{AreSeated, Differ, keys_in}
+use Rattle.desk_world.specs.Claims.{has_map_kind, is_map}
+use Rattle.desk_world.specs.InStep.{AreSeated, Differ, keys_in, is_guard_seat, is_guard_of}
+use Rattle.desk_world.specs.InStep.{guards_seated, guards_claimed}
 use Rattle.desk_world.specs.Looks.{look_in, seen_at}
 use Rattle.desk_world.proofs.Following.{same_sort, chain_there}
+use Rattle.desk_world.proofs.GuardOrder.{IsLastGuard, guards_among, guards_last, guards_gone}
+use Rattle.desk_world.proofs.GuardOrder.{key_gone, claim_gone, claim_passed, left_stays}
+use Rattle.desk_world.proofs.GuardOrder.{left_detached}
 use Rattle.desk_world.proofs.Looks.{seen_found, seen_last, seen_without}
 use Rattle.desk_world.proofs.Relabelled.{elsewhere, Agrees}
 use Rattle.desk_world.proofs.Seated.{SitsIn, all_so, all_and, all_both}
@@ -255,8 +261,8 @@ module _ (sort : ItemSort) (key : ℕ) (role : Role) (front back : List Claim) (
     one = claim sort key role
 
     -- the seat is claimed, and all others as before
-    pub seats_more : AreSeated (front ++ one ∷ back) new.chains
-    seats_more = record {
+    pub seats_more : IsLastGuard front one back → AreSeated (front ++ one ∷ back) new.chains
+    seats_more order = record {
       there = all_more (SitsIn new.chains) front one back (subst (Sits role) (sym look_came) plays)
           (all_so (SitsIn old.chains) (SitsIn new.chains) (λ x sits. (stay x sits).1)
           (front ++ back) seated.there);
@@ -264,8 +270,32 @@ module _ (sort : ItemSort) (key : ℕ) (role : Role) (front back : List Claim) (
       claims_differ = differ_more front one back seated.claims_differ
           (unclaimed old.chains sort key (front ++ back) none_before seated.there);
       keys_differ = differ;
+      in_order = λ s. guards_now s ∙ sym (order s);
+      none_left = λ s. ap (λ c. (chain_in s c).left) attaches.rest
+          ∙ left_stays sort s (seats_in sort new.chains) old.chains ∙ seated.none_left s;
     }
       where
+        is_guard : is_guard_seat t ≡ not (has_map_kind role)
+        is_guard = ap (λ x. not (is_map x.kind)) attaches.seat.seen ∙ ap not plays.kind
+
+        guards_now : (s : ItemSort) → guards_seated s new.chains
+            ≡ guards_claimed s (front ++ back) ++ cond (is_guard_of s one) (key ∷ []) []
+        guards_now s = elim (same_sort sort s) [
+          | inl same ↦
+              subst (λ x. guards_seated x new.chains
+              ≡ guards_claimed x (front ++ back) ++ cond (is_guard_of x one) (key ∷ []) []) same
+              (ap guards_among attaches.seat.last ∙ guards_last ss t
+              ∙ (λ i. seated.in_order sort i
+              ++ cond ((is_guard
+              ∙ ap (λ b. b && not (has_map_kind role)) (sym (sort_itself sort))) i)
+              (attaches.seat.name i ∷ []) []))
+          | inr apart ↦
+              ap guards_among (seats_there s apart) ∙ seated.in_order s
+              ∙ sym (append-nil (guards_claimed s (front ++ back)))
+              ∙ ap (λ b. guards_claimed s (front ++ back) ++ cond b (key ∷ []) [])
+              (sym (ap (λ b. b && not (has_map_kind role)) (no_sort sort s apart)))
+        ]
+
         still : (s : ItemSort) → AllOf (λ k. is_claimed (front ++ one ∷ back) s k ≡ true)
             (keys_in s old.chains)
         still s = all_so (λ k. is_claimed (front ++ back) s k ≡ true)
@@ -358,8 +388,22 @@ module _ (sort : ItemSort) (key : ℕ) (role : Role) (front back : List Claim) (
     no_other = claimed;
     claims_differ = (differ_less front gone back seated.claims_differ).0;
     keys_differ = differ;
+    in_order = guards_now;
+    none_left = λ s. left_detached sort s key c ∙ seated.none_left s;
   }
     where
+      guards_now : (s : ItemSort) → guards_seated s d ≡ guards_claimed s less
+      guards_now s = elim (same_sort sort s) [
+        | inl same ↦
+            subst (λ x. guards_seated x d ≡ guards_claimed x less) same
+            (ap guards_among (here sort) ∙ guards_gone key (seats_in sort c)
+            ∙ ap (key_gone key) (seated.in_order sort) ∙ claim_gone front gone back apart)
+        | inr other ↦
+            ap guards_among (there sort s other) ∙ seated.in_order s
+            ∙ claim_passed s front gone back
+            (ap (λ b. b && not (has_map_kind role)) (no_sort sort s other))
+      ]
+
       left : (s : ItemSort) (k : ℕ) → (is_sort sort s && key == k) ≡ false
           → is_claimed (front ++ gone ∷ back) s k ≡ true → is_claimed less s k ≡ true
       left s k other is =

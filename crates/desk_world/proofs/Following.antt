@@ -1,12 +1,10 @@
 -- What a world stands for follows each step of its digraph.
-use Rattle.std.proofs.Common.{◌≡◌, ◌⊎◌, ℕ, Bool, true, false, cond, List, [], ◌∷◌, map, Option}
+use Rattle.std.proofs.Common.{◌≡◌, ◌⊎◌, ℕ, Bool, true, false, List, [], ◌∷◌, map, Option}
 use Rattle.std.proofs.Common.{Some}
 use Rattle.std.proofs.Common.{None, refl, sym, ap, ◌∙◌, subst, inl, inr}
-use Rattle.std.specs.Prelude.{option_map, option_and_then, ◌==◌}
-use Rattle.std.specs.List.{filter_map, cons_option}
+use Rattle.std.specs.Prelude.{option_map, option_and_then}
+use Rattle.std.specs.List.{cons_option}
 use Rattle.std.proofs.lemmas.Bool.{true≢false}
-use Rattle.std.proofs.lemmas.Option.{none-some, same_Some}
-use Rattle.base_items.specs.declared.items.Fact.{Fact}
 use Rattle.base_items.specs.declared.items.ItemSort.{ItemSort}
 use Rattle.base_items.specs.declared.items.ItemSort.TheVariants as sorts
 use Rattle.script_words.specs.declared.commands.Direction.{Direction}
@@ -18,18 +16,13 @@ use Rattle.plain_digraph.specs.PlainSteps.{PlainStep, AddNode, AddArc, MoveFrom,
 use Rattle.plain_digraph.specs.PlainSteps.{PlaceBack, EraseArc, EraseNode, ClearArcs, ClearNodes}
 use Rattle.plain_digraph.specs.PlainSteps.{Change, Untouched, change_of, sort_of, after_step}
 use Rattle.plain_digraph.specs.Valid.{IsValid}
-use Rattle.observe_core.specs.declared.kinds.Kind.{Kind}
-use Rattle.observe_core.specs.declared.kinds.Kind.TheVariants as kinds
-use Rattle.observe_core.specs.Held as held
 use Rattle.observe_core.specs.Held.{Held, making_of}
 use Rattle.observe_core.specs.Seen.{Seen}
-use Rattle.observe_core.specs.Fits.{Fits, HeldFits}
-use Rattle.notify_chain.specs.Seats.{SeatSeen, AllSeats, seat_key}
 use Rattle.alter_graph.specs.Chains.{ChainSeen, ChainsSeen, chain_in, seats_in, in_chain}
-use Rattle.alter_graph.specs.State as graph
-use Rattle.alter_graph.specs.State.{State, Stands}
+use Rattle.alter_graph.specs.State.{State}
 use Rattle.alter_graph.specs.Steps.{Notice, notice_of, noticed, took, CanTake}
 use Rattle.alter_graph.proofs.Listing.{live_id}
+use Rattle.alter_graph.proofs.Rooms.{facts_counted}
 use Rattle.alter_graph.proofs.Telling.{CanHear, can_hear}
 use Rattle.alter_graph.proofs.Saving.{held_noticed}
 use Rattle.plain_world.specs.Tables.{Name, Named, under, each_changed}
@@ -38,6 +31,7 @@ use Rattle.plain_world.specs.Following.{held_after, labels_after, attached_after
 use Rattle.plain_world.specs.Following.{attribute_after, snapshot_after, follow}
 use Rattle.desk_world.specs.declared.tables.MapKind.{MapKind}
 use Rattle.desk_world.specs.declared.tables.MapKind.TheVariants as maps
+use Rattle.desk_world.specs.declared.tables.GuardRow.{GuardRow}
 use Rattle.desk_world.specs.declared.tables.MapRow.{MapRow}
 use Rattle.desk_world.specs.declared.tables.ItemTables.{ItemTables}
 use Rattle.desk_world.specs.declared.tables.AttributeRow.{AttributeRow}
@@ -47,11 +41,17 @@ use Rattle.desk_world.specs.Claims as claims
 use Rattle.desk_world.specs.Claims.{Role, Plays, Sits, has_map_kind, is_map, made_for, role_of}
 use Rattle.desk_world.specs.Columns.{labels_of}
 use Rattle.desk_world.specs.InStep.{Differ, keys_in, IsBare, is_plain}
-use Rattle.desk_world.specs.Looks.{Look, look_in, looked, seen_at}
+use Rattle.desk_world.specs.Looks.{look_in, looked, seen_at}
 use Rattle.desk_world.specs.Plain.{held_by, map_seen, attached_seen, labels_seen, seat_sort}
-use Rattle.desk_world.specs.Plain.{guard_seen, snapshot_seen, attribute_seen, world_seen, ties_seen}
-use Rattle.desk_world.proofs.Noticed.{seen_noticed, map_hears, change_by, held_follows}
-use Rattle.desk_world.proofs.Noticed.{labels_follow, heard_by}
+use Rattle.desk_world.specs.Plain.{guard_by, guard_seen, snapshot_seen, attribute_seen, world_seen}
+use Rattle.desk_world.specs.Plain.{ties_seen}
+use Rattle.desk_world.proofs.Guarded.{CanBurn, becomes, guard_hears, guard_unheard}
+use Rattle.desk_world.proofs.Hearing.{hears_in, hears_same, hears_other, seats_hear, made_hear}
+use Rattle.desk_world.proofs.Hearing.{maps_hear}
+use Rattle.desk_world.proofs.Noticed.{seen_noticed, map_hears, change_by, held_follows, map_kind}
+use Rattle.desk_world.proofs.Noticed.{labels_follow, heard_by, ValuesFit}
+use Rattle.desk_world.proofs.Remaining.{look_by}
+use Rattle.desk_world.proofs.Stood.{Stood}
 
 -- ---- sorts
 
@@ -117,31 +117,15 @@ change_there ClearArcs g sorts.Arc apart = absurd (apart refl)
 change_there ClearNodes g sorts.Node apart = absurd (apart refl)
 change_there ClearNodes g sorts.Arc apart = refl
 
--- ---- roles
-
-pub map_kind : (kind : Kind) → is_map kind ≡ true → kind ≡ kinds.Map
-map_kind kinds.Map is = refl
-map_kind kinds.Quota is = absurd (true≢false (sym is))
-map_kind kinds.Loopless is = absurd (true≢false (sym is))
-map_kind kinds.Simple is = absurd (true≢false (sym is))
-map_kind kinds.OutCap is = absurd (true≢false (sym is))
-map_kind kinds.Fuse is = absurd (true≢false (sym is))
-map_kind kinds.Tally is = absurd (true≢false (sym is))
-
-pub seen_fits : (stamps : ℕ) (live : List Fact) (key : ℕ) (ss : List SeatSeen) (s : Seen)
-    → AllSeats (Stands stamps live) ss → seen_at key ss ≡ Some s → Fits s live
-seen_fits stamps live key [] s all at = absurd (none-some s at)
-seen_fits stamps live key (t ∷ ss) s all at =
-    let rest = seen_fits stamps live key ss s all.1 in
-    elim (t.key == key) as (λ b. cond b (Some t.seen) (seen_at key ss) ≡ Some s → Fits s live) [
-      | true ↦ λ h. subst (λ x. Fits x live) (same_Some t.seen s h) all.0.fits
-      | false ↦ λ h. rest h
-    ] at
-
 -- ---- one step
 
-module _ (step : PlainStep) (s : State) (at : graph.IsInStep s) (can : CanTake step s.graph)
-    (then_valid : IsValid (after_step s.graph step))
+-- what is seen under each key stands for the live items of its sort
+abbrev pub AreStood : State → Type 0
+AreStood s = (sort : ItemSort) (key : ℕ) (was : Seen) → look_in s.chains sort key ≡ Some was
+    → Stood (facts s.graph sort) was
+
+module _ (step : PlainStep) (s : State) (valid : IsValid s.graph) (can : CanTake step s.graph)
+    (then_valid : IsValid (after_step s.graph step)) (stood : AreStood s)
     (differ : (sort : ItemSort) → Differ (keys_in sort s.chains)) where
   abbrev n : Notice
   n = notice_of step s.graph
@@ -150,16 +134,7 @@ module _ (step : PlainStep) (s : State) (at : graph.IsInStep s) (can : CanTake s
   d = (took step s).chains
 
   hears : CanHear n (facts s.graph (sort_of step))
-  hears = can_hear step s.graph at.valid can then_valid
-
-  fits : (sort : ItemSort) (key : ℕ) (was : Seen) → look_in s.chains sort key ≡ Some was
-      → Fits was (facts s.graph sort)
-  fits sorts.Node key was is =
-      seen_fits s.graph.stamps (facts s.graph sorts.Node) key s.chains.nodes.seats was
-      at.seats.nodes is
-  fits sorts.Arc key was is =
-      seen_fits s.graph.stamps (facts s.graph sorts.Arc) key s.chains.arcs.seats was
-      at.seats.arcs is
+  hears = can_hear step s.graph valid can then_valid
 
   look_here : (key : ℕ) → look_in d (sort_of step) key
       ≡ seen_at key (noticed n (chain_in (sort_of step) s.chains)).seats
@@ -180,7 +155,7 @@ module _ (step : PlainStep) (s : State) (at : graph.IsInStep s) (can : CanTake s
 
   module _ {Y : Type 0} (read : Held → Y) (after : Change → Y → Y) (role : Role)
       (no_guard : has_map_kind role ≡ true) (keeps : (y : Y) → after Untouched y ≡ y)
-      (goes : (h : Held) → making_of h ≡ made_for role → HeldFits h (facts s.graph (sort_of step))
+      (goes : (h : Held) → making_of h ≡ made_for role → ValuesFit h (facts s.graph (sort_of step))
       → read (held_noticed n h) ≡ after (change_by n (count_of s.graph (sort_of step)))
       (read h)) where
     followed_here : (key : ℕ) (was : Seen) → look_in s.chains (sort_of step) key ≡ Some was
@@ -188,7 +163,7 @@ module _ (step : PlainStep) (s : State) (at : graph.IsInStep s) (can : CanTake s
     followed_here key was is plays =
         let heard = map_hears n (facts s.graph (sort_of step)) was hears
         (map_kind was.kind (plays.kind ∙ no_guard)) in
-        let stands = fits (sort_of step) key was is in
+        let stands = stood (sort_of step) key was is in
         record {
           later = heard.later;
           seen = look_here key
@@ -199,9 +174,9 @@ module _ (step : PlainStep) (s : State) (at : graph.IsInStep s) (can : CanTake s
             making = heard.made.making ∙ plays.making;
             kind = ap is_map heard.made.kind ∙ plays.kind;
           };
-          reads = ap read heard.held ∙ goes was.held plays.making stands.held
+          reads = ap read heard.held ∙ goes was.held plays.making stands.values
               ∙ ap (λ c. after c (read was.held))
-              (sym (change_here step s.graph at.valid can));
+              (sym (change_here step s.graph valid can));
         }
 
     pub followed : (sort : ItemSort) (key : ℕ) (was : Seen) → look_in s.chains sort key ≡ Some was
@@ -354,20 +329,92 @@ module _ (step : PlainStep) (s : State) (at : graph.IsInStep s) (can : CanTake s
       one (rows.Plain text) is rest = ap (λ more. under e.name (plain.Plain text) ∷ more) rest
       one (rows.Tied sort number) is rest = absurd (true≢false (sym is))
 
+  -- ---- guards
+
+  pub look_hears : (sort : ItemSort) (key : ℕ) → look_in d sort key
+      ≡ option_and_then (hears_in (sort_of step) sort n) (look_in s.chains sort key)
+  look_hears =
+      look_by s.chains d (λ sort. hears_in (sort_of step) sort n)
+      (seats_hear (sort_of step) n s.chains) (made_hear (sort_of step) n)
+      (maps_hear (sort_of step) n) differ
+
+  -- a guard that is there has something left where it may burn
+  abbrev pub Burns : ItemSort → ℕ → Type 0
+  Burns sort key = (was : Seen) → look_in s.chains sort key ≡ Some was
+      → Plays claims.Guard was × CanBurn n was
+
+  guard_follows : (sort : ItemSort) (was : Seen) → Stood (facts s.graph sort) was
+      → is_map was.kind ≡ false → CanBurn n was
+      → option_map (guard_by sort) (hears_in (sort_of step) sort n was)
+      ≡ guard_after (change_of s.graph step) (guard_by sort was)
+  guard_follows sort was stands no_map burns = elim (same_sort (sort_of step) sort) [
+    | inl same ↦
+        subst (λ t. Stood (facts s.graph t) was
+        → option_map (guard_by t) (hears_in (sort_of step) t n was)
+        ≡ guard_after (change_of s.graph step) (guard_by t was)) same
+        (λ here.
+        ap (λ h. option_map (guard_by (sort_of step)) (h was)) (hears_same (sort_of step) n)
+        ∙ guard_hears n (facts s.graph (sort_of step)) (count_of s.graph (sort_of step))
+        (sort_of step) was hears here (facts_counted s.graph (sort_of step) valid) no_map burns
+        ∙ ap (λ c. becomes c (guard_by (sort_of step) was))
+        (sym (change_here step s.graph valid can))) stands
+    | inr apart ↦
+        ap (λ h. option_map (guard_by sort) (h was)) (hears_other (sort_of step) sort n apart)
+        ∙ guard_unheard sort was
+        ∙ ap (λ c. becomes c (guard_by sort was)) (sym (change_there step s.graph sort apart))
+  ]
+
+  row_guarded : (sort : ItemSort) (key : ℕ) → Burns sort key
+      → option_map (guard_by sort) (look_in d sort key)
+      ≡ option_and_then (guard_after (change_of s.graph step))
+      (option_map (guard_by sort) (look_in s.chains sort key))
+  row_guarded sort key burns =
+      ap (option_map (guard_by sort)) (look_hears sort key)
+      ∙ of (look_in s.chains sort key) refl
+    where
+      of : (o : Option Seen) → look_in s.chains sort key ≡ o
+          → option_map (guard_by sort) (option_and_then (hears_in (sort_of step) sort n) o)
+          ≡ option_and_then (guard_after (change_of s.graph step)) (option_map (guard_by sort) o)
+      of None is = refl
+      of (Some was) is =
+          let here = burns was is in
+          guard_follows sort was (stood sort key was is) here.0.kind here.1
+
+  guards_follow : (table : List (Named GuardRow))
+      → AllOf (λ e. Burns e.value.sort e.value.key.0) table
+      → looked (guard_seen (look_in d)) table
+      ≡ each_changed (guard_after (change_of s.graph step))
+      (looked (guard_seen (look_in s.chains)) table)
+  guards_follow [] burn = refl
+  guards_follow (e ∷ es) burn =
+      let rest = guards_follow es burn.1 in
+      let here = row_guarded e.value.sort e.value.key.0 burn.0 in
+      (λ i. cons_option (option_map (under e.name) (here i)) (rest i))
+      ∙ change_under (guard_seen (look_in s.chains) e.value)
+      (looked (guard_seen (look_in s.chains)) es)
+    where
+      change_under : (o : Option plain.Guard) (more : List (Named plain.Guard))
+          → cons_option (option_map (under e.name)
+          (option_and_then (guard_after (change_of s.graph step)) o))
+          (each_changed (guard_after (change_of s.graph step)) more)
+          ≡ each_changed (guard_after (change_of s.graph step))
+          (cons_option (option_map (under e.name) o) more)
+      change_under None more = refl
+      change_under (Some guard) more = refl
+
   -- the world that is seen after the step is the one that follows it
   pub world_follows : {O : Type 0} (w : World O) (pool : List GuardWord) → IsBare w
       → Sits claims.Labels (look_in s.chains sorts.Node w.nodes.labels.0)
       → Sits claims.Labels (look_in s.chains sorts.Arc w.arcs.labels.0)
       → AllOf (λ e. SitsRow sorts.Node e.value) w.nodes.maps.rows
       → AllOf (λ e. SitsRow sorts.Arc e.value) w.arcs.maps.rows
+      → AllOf (λ e. Burns e.value.sort e.value.key.0) w.guards.rows
       → world_seen (after_step s.graph step) (look_in d) pool w
       ≡ follow (world_seen s.graph (look_in s.chains) pool w) step
-  world_follows w pool bare node_labels arc_labels node_maps arc_maps =
+  world_follows w pool bare node_labels arc_labels node_maps arc_maps burn =
       let nodes = attached_follows sorts.Node w.nodes node_labels node_maps in
       let arcs = attached_follows sorts.Arc w.arcs arc_labels arc_maps in
-      let guards = subst (λ table. looked (guard_seen (look_in d)) table
-      ≡ each_changed (guard_after (change_of s.graph step))
-      (looked (guard_seen (look_in s.chains)) table)) (sym bare.guards) refl in
+      let guards = guards_follow w.guards.rows burn in
       let snaps = subst (λ table. looked (snapshot_seen (after_step s.graph step) (look_in d)) table
       ≡ map (λ e. under e.name (snapshot_after s.graph step e.value))
       (looked (snapshot_seen s.graph (look_in s.chains)) table)) (sym bare.snapshots) refl in

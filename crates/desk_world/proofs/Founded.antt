@@ -1,6 +1,6 @@
 -- Seats for the labels and the ties of both sorts, and no others.
 use Rattle.std.proofs.Common.{◌≡◌, ℕ, Bool, true, false, cond, List, [], ◌∷◌, ◌++◌, Option, Some}
-use Rattle.std.proofs.Common.{None}
+use Rattle.std.proofs.Common.{None, not}
 use Rattle.std.proofs.Common.{refl, sym, ap, ◌∙◌, subst}
 use Rattle.std.specs.Prelude.{◌==◌, ◌||◌, ◌&&◌}
 use Rattle.std.proofs.lemmas.Bool.{eq-eqb, eqb-true, or_left, or_right, true≢false}
@@ -12,14 +12,15 @@ use Rattle.observe_core.specs.Seen.{Seen, Watched}
 use Rattle.observe_core.specs.Told.{built}
 use Rattle.observe_core.specs.Untold.{TracksNothing}
 use Rattle.notify_chain.specs.Seats.{SeatSeen, find_seat}
-use Rattle.alter_graph.specs.Chains.{ChainsSeen, no_chains, seats_in, in_chain}
+use Rattle.alter_graph.specs.Chains.{ChainsSeen, no_chains, chain_in, seats_in, in_chain}
 use Rattle.alter_graph.specs.State.{State}
 use Rattle.alter_graph.specs.Attaching.{Attaches, HasNoCounts, with_seats}
 use Rattle.desk_world.specs.Claims.{Claim, claim, Role, Labels, Ties, Plays, Sits}
-use Rattle.desk_world.specs.Claims.{is_claimed}
+use Rattle.desk_world.specs.Claims.{is_claimed, is_map}
 use Rattle.desk_world.specs.Founding.{new_labels, new_ties}
-use Rattle.desk_world.specs.InStep.{AreSeated, Differ, keys_in}
+use Rattle.desk_world.specs.InStep.{AreSeated, Differ, keys_in, guards_seated, guards_claimed}
 use Rattle.desk_world.specs.Looks.{look_in, seen_at}
+use Rattle.desk_world.proofs.GuardOrder.{guards_among, seat_first}
 
 -- ---- seats that were told nothing
 
@@ -193,8 +194,30 @@ module _ (a b c d : ℕ) (x y z u : Seen) (chains : ChainsSeen)
       (refl, (ap (λ t. t || false) (other_way c d are.arcs_differ), (refl, tt))),
     );
     keys_differ = differ;
+    in_order = order;
+    none_left = left;
   }
     where
+      left : (sort : ItemSort) → (chain_in sort chains).left ≡ []
+      left Node = ap (λ x. x.nodes.left) are.chains_are
+      left Arc = ap (λ x. x.arcs.left) are.chains_are
+
+      two_maps : (x y : SeatSeen) → is_map x.seen.kind ≡ true → is_map y.seen.kind ≡ true
+          → guards_among (x ∷ y ∷ []) ≡ []
+      two_maps x y first second =
+          seat_first x (y ∷ [])
+          ∙ ap (λ b. cond (not b) (x.key ∷ guards_among (y ∷ [])) (guards_among (y ∷ []))) first
+          ∙ seat_first y [] ∙ ap (λ b. cond (not b) (y.key ∷ []) []) second
+
+      order : (sort : ItemSort)
+          → guards_seated sort chains ≡ guards_claimed sort (four_claims a b c d)
+      order Node =
+          ap (guards_seated Node) are.chains_are
+          ∙ two_maps are.node_labels are.node_ties one.kind two.kind
+      order Arc =
+          ap (guards_seated Arc) are.chains_are
+          ∙ two_maps are.arc_labels are.arc_ties three.kind four.kind
+
       none_other : (sort : ItemSort)
           → AllOf (λ key. is_claimed (four_claims a b c d) sort key ≡ true) (keys_in sort chains)
       none_other Node = subst

@@ -1,6 +1,7 @@
 -- A world whose labels were written to by the key of their seat.
-use Rattle.std.proofs.Common.{◌≡◌, ℕ, refl, sym, ap, subst, Some, ◌∙◌}
+use Rattle.std.proofs.Common.{◌≡◌, ℕ, false, refl, sym, ap, subst, Some, ◌∙◌}
 use Rattle.std.specs.Prelude.{IsTrue}
+use Rattle.std.proofs.lemmas.Bool.{true≢false}
 use Rattle.base_items.specs.declared.items.ItemSort.{ItemSort}
 use Rattle.base_items.specs.declared.items.ItemSort.TheVariants as sorts
 use Rattle.observe_core.specs.Held.{Values, Labels, entry_id}
@@ -9,6 +10,7 @@ use Rattle.observe_core.specs.Fits.{HeldFits}
 use Rattle.observe_core.specs.Seen.{Watched}
 use Rattle.notify_chain.specs.Seats.{SeatSeen, find_seat, seat_from, seat_seen}
 use Rattle.alter_graph.specs.Chains.{ChainsSeen, chains_seen, seats_in}
+use Rattle.alter_graph.specs.Verdict.{is_sort}
 use Rattle.alter_graph.specs.Lending.{MayWrite, graph_with}
 use Rattle.plain_digraph.specs.Rising.{swapped}
 use Rattle.index_maps.specs.RefViews.{with_label}
@@ -24,7 +26,7 @@ use Rattle.desk_world.specs.Plain.{plain_of, tables_of}
 use Rattle.desk_world.proofs.Adding.{room_put, room_found}
 use Rattle.desk_world.proofs.Labelled.{HasLabels, labels_found}
 use Rattle.desk_world.proofs.Writing.{written_in_step, labels_put, plain_kept, labels_kept}
-use Rattle.desk_world.proofs.Written.{seats_here}
+use Rattle.desk_world.proofs.Written.{reseated, seats_here}
 
 -- the same labels, and as much room for labels as the seat has
 pub record Readies {O : Type 0} (watch : O → Watched) (w later : World O) (sort : ItemSort)
@@ -50,6 +52,14 @@ room_there watch w sort items old is found =
     let ss = seats_in sort (chains_seen watch w.graph.chains) in
     subst (λ (x : ItemTables). room_at x.labels.0 ss ≡ (watch old).room) is
     (room_found items.labels.0 ss (seat_from watch items.labels.0 (Some old)) found)
+
+-- the seats of the other sort
+elsewhere : (sort other : ItemSort) (t : SeatSeen) (c : ChainsSeen) → is_sort sort other ≡ false
+    → seats_in other (reseated sort t c) ≡ seats_in other c
+elsewhere sorts.Node sorts.Node t c apart = absurd (true≢false apart)
+elsewhere sorts.Node sorts.Arc t c apart = refl
+elsewhere sorts.Arc sorts.Node t c apart = refl
+elsewhere sorts.Arc sorts.Arc t c apart = absurd (true≢false apart)
 
 module _ {O : Type 0} (watch : O → Watched) (w : World O) (sort : ItemSort) (items : ItemTables)
     (old now : O) (in_step : AreInStep watch w) (is : items ≡ tables_of w sort)
@@ -80,6 +90,25 @@ module _ {O : Type 0} (watch : O → Watched) (w : World O) (sort : ItemSort) (i
           (seats_in sort (chains_seen watch (written (tables_of w sort)).graph.chains))
           ≡ room_at (tables_of w x).labels.0
           (seats_in sort (chains_seen watch (written (tables_of w sort)).graph.chains))
+      same_key sorts.Node = refl
+      same_key sorts.Arc = refl
+
+  -- the room for labels of the other sort
+  pub others_room : (other : ItemSort) → is_sort sort other ≡ false
+      → room_for_labels watch (written items) other ≡ room_for_labels watch w other
+  others_room other apart =
+      let key = (tables_of w other).labels.0 in
+      let c = chains_seen watch w.graph.chains in
+      let t : SeatSeen = seat_from watch items.labels.0 (Some now) in
+      same_key other
+      ∙ ap (λ (d : ChainsSeen). room_at key (seats_in other d)) (may now).seats
+      ∙ ap (room_at key) (elsewhere sort other t c apart)
+    where
+      same_key : (x : ItemSort)
+          → room_at (tables_of (written items) x).labels.0
+          (seats_in x (chains_seen watch (written items).graph.chains))
+          ≡ room_at (tables_of w x).labels.0
+          (seats_in x (chains_seen watch (written items).graph.chains))
       same_key sorts.Node = refl
       same_key sorts.Arc = refl
 

@@ -29,8 +29,8 @@ use Rattle.desk_world.specs.Plain.{world_seen, map_seen, labels_seen, ties_seen}
 use Rattle.desk_world.specs.Plain.{guard_seen, snapshot_seen, tables_of, plain_of, look_of}
 use Rattle.desk_world.specs.Plain.{kinds_of}
 use Rattle.desk_world.proofs.MapsFound.{rows_bare}
-use Rattle.desk_world.proofs.Relabelled.{Agrees, rows_agree, attributes_agree}
-use Rattle.desk_world.proofs.Seated.{all_left}
+use Rattle.desk_world.proofs.Relabelled.{Agrees, rows_agree, guards_agree, attributes_agree}
+use Rattle.desk_world.proofs.Seated.{all_left, all_right}
 
 module _ {O : Type 0} where
   -- other maps of the sort, over another digraph
@@ -124,12 +124,14 @@ module _ {O : Type 0} where
 
   module _ (w : World O) (bare : IsBare w) (g : Digraph) (look later : Look)
       (pool : List GuardWord) (a : AlterOf O) where
-    others : (looked (guard_seen later) w.guards.rows ≡ looked (guard_seen look) w.guards.rows)
+    others : AllOf (Agrees look later) (other_claims w)
+        → (looked (guard_seen later) w.guards.rows ≡ looked (guard_seen look) w.guards.rows)
         × (looked (snapshot_seen g later) w.snapshots.rows
         ≡ looked (snapshot_seen g look) w.snapshots.rows)
-    others = (
-      subst (λ table. looked (guard_seen later) table ≡ looked (guard_seen look) table)
-          (sym bare.guards) refl,
+    others agree = (
+      guards_agree look later w.guards.rows
+          (all_left (Agrees look later) (map guard_claim w.guards.rows)
+          (flat_map snap_claims w.snapshots.rows) agree),
       subst (λ table. looked (snapshot_seen g later) table ≡ looked (snapshot_seen g look) table)
           (sym bare.snapshots) refl,
     )
@@ -145,6 +147,8 @@ module _ {O : Type 0} where
         let arc_maps = rows_agree look later sorts.Arc w.arcs.maps.rows
         (all_left (Agrees look later) (map (map_claim sorts.Arc) w.arcs.maps.rows)
         (other_claims w) all.1.1.1.1) in
+        let rest = others (all_right (Agrees look later)
+        (map (map_claim sorts.Arc) w.arcs.maps.rows) (other_claims w) all.1.1.1.1) in
         let attributes = attributes_agree look later (ties_seen look w)
         (ties_seen later (with_rows w sorts.Node rows a)) w.attributes.rows bare.attributes in
         λ i. record (world_seen g look pool w) {
@@ -153,8 +157,8 @@ module _ {O : Type 0} where
             maps = looked (map_seen later sorts.Node) rows.rows;
           };
           arcs = record { labels = arc_labels i; maps = arc_maps i };
-          guards = others.0 i;
-          snapshots = others.1 i;
+          guards = rest.0 i;
+          snapshots = rest.1 i;
           attributes = attributes i;
         }
     maps_seen sorts.Arc rows all =
@@ -163,6 +167,8 @@ module _ {O : Type 0} where
         let node_maps = rows_agree look later sorts.Node w.nodes.maps.rows
         (all_left (Agrees look later) (map (map_claim sorts.Node) w.nodes.maps.rows)
         (other_claims w) all.1.1.1.1) in
+        let rest = others (all_right (Agrees look later)
+        (map (map_claim sorts.Node) w.nodes.maps.rows) (other_claims w) all.1.1.1.1) in
         let attributes = attributes_agree look later (ties_seen look w)
         (ties_seen later (with_rows w sorts.Arc rows a)) w.attributes.rows bare.attributes in
         λ i. record (world_seen g look pool w) {
@@ -171,8 +177,8 @@ module _ {O : Type 0} where
             labels = labels i;
             maps = looked (map_seen later sorts.Arc) rows.rows;
           };
-          guards = others.0 i;
-          snapshots = others.1 i;
+          guards = rest.0 i;
+          snapshots = rest.1 i;
           attributes = attributes i;
         }
 
@@ -202,7 +208,6 @@ module _ {O : Type 0} (watch : O → Watched) (w : World O) (rows : Rows MapRow)
     seated = seated;
     boxes = in_step.boxes;
     bare = record {
-      guards = in_step.bare.guards;
       snapshots = in_step.bare.snapshots;
       views = in_step.bare.views;
       node_maps = all;
@@ -215,7 +220,6 @@ module _ {O : Type 0} (watch : O → Watched) (w : World O) (rows : Rows MapRow)
     seated = seated;
     boxes = in_step.boxes;
     bare = record {
-      guards = in_step.bare.guards;
       snapshots = in_step.bare.snapshots;
       views = in_step.bare.views;
       node_maps = in_step.bare.node_maps;

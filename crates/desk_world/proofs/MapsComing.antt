@@ -37,6 +37,7 @@ use Rattle.desk_world.proofs.AsMade.{as_values}
 use Rattle.desk_world.proofs.BuiltMaps.{built_map, values_type}
 use Rattle.desk_world.proofs.Changing.{looked_more, looked_less}
 use Rattle.desk_world.proofs.Claimed.{look_came, agree_more, seats_more, agree_less, seats_less}
+use Rattle.desk_world.proofs.GuardOrder.{map_comes, map_role}
 use Rattle.desk_world.proofs.MapTables.{with_rows, before, behind, claims_with}
 use Rattle.desk_world.proofs.MapTables.{claims_are, claims_midst, claims_apart, maps_seen}
 use Rattle.desk_world.proofs.MapTables.{rows_in_step, plain_later, maps_plain}
@@ -157,7 +158,8 @@ module _ {O : Type 0} (watch : O → Watched) (w : World O) (sort : ItemSort) (r
       (sym (ap (claims_with w sort) put ∙ claims_midst w sort table (under name row) []
       ∙ ap (λ x. front ++ x ∷ back) same_claim))
       (seats_more sort row.key.0 (role_of row.kind) front back came (state_of watch w.graph)
-      (state_of watch a) attaches next_plays seated))
+      (state_of watch a) attaches next_plays seated
+      (map_comes front (claim sort row.key.0 (role_of row.kind)) back (map_role row.kind))))
 
   agree : AllOf (Agrees look now) (front ++ back)
   agree = agree_more sort row.key.0 (role_of row.kind) front back came (state_of watch w.graph)

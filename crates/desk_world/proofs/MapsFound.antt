@@ -20,6 +20,7 @@ use Rattle.plain_world.specs.Demands as demands
 use Rattle.plain_world.specs.Demands.{is_there}
 use Rattle.plain_world.specs.Values.{type_of}
 use Rattle.plain_world.specs.Views.{map_of}
+use Rattle.plain_world.specs.World.{attached}
 use Rattle.desk_world.specs.declared.tables.MapKind.{MapKind}
 use Rattle.desk_world.specs.declared.tables.MapKind.TheVariants as maps
 use Rattle.desk_world.specs.declared.tables.MapRow.{MapRow}
@@ -54,6 +55,20 @@ looked_entry {X} {Y} look (e ∷ es) name all =
           | true ↦ sym is
           | false ↦ rest
         ]
+
+-- and the names stay
+looked_names : {X Y : Type 0} (look : X → Option Y) (table : List (Named X))
+    → AllOf (λ (e : Named X). is_some (look e.value) ≡ true) table
+    → map (λ (f : Named Y). f.name) (looked look table) ≡ map (λ (e : Named X). e.name) table
+looked_names look [] all = refl
+looked_names {X} {Y} look (e ∷ es) all = by (look e.value) all.0 (looked_names look es all.1)
+  where
+    by : (o : Option Y) → is_some o ≡ true
+        → map (λ (f : Named Y). f.name) (looked look es) ≡ map (λ (x : Named X). x.name) es
+        → map (λ (f : Named Y). f.name) (cons_option (option_map (under e.name) o) (looked look es))
+        ≡ e.name ∷ map (λ (x : Named X). x.name) es
+    by None is rest = absurd (true≢false (sym is))
+    by (Some y) is rest = ap (λ more. e.name ∷ more) rest
 
 -- what holds of all values holds of what stands under a name
 pub of_entry : {X : Type 0} (P : X → Type 0) (table : List (Named X)) (name : Name) (x : X)
@@ -146,6 +161,14 @@ module _ {O : Type 0} (watch : O → Watched) (w : World O) (in_step : AreInStep
       (λ (e : Named MapRow). is_some (map_seen (look_of watch w) sort e.value) ≡ true)
       (λ e leads. ap is_some (leads_held (look_of watch w) sort e.value leads))
       (tables_of w sort).maps.rows (rows_lead sort)
+
+  -- the maps have the names of the rows, in their order
+  pub rows_named : (sort : ItemSort) → map (λ e. e.name) (attached (plain_of watch w) sort).maps
+      ≡ map (λ e. e.name) (tables_of w sort).maps.rows
+  rows_named sorts.Node =
+      looked_names (map_seen (look_of watch w) sorts.Node) w.nodes.maps.rows (rows_seen sorts.Node)
+  rows_named sorts.Arc =
+      looked_names (map_seen (look_of watch w) sorts.Arc) w.arcs.maps.rows (rows_seen sorts.Arc)
 
   -- each row is of a map of values
   pub rows_bare : (sort : ItemSort)

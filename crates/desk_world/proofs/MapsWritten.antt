@@ -145,10 +145,10 @@ module _ {O : Type 0} (watch : O → Watched) (w : World O) (sort : ItemSort) (n
         (held_with value id (watch old).seen) wrote fits
         (no_snapshot value (watch old).seen plays));
     seated = subst (AreSeated (claims_of w)) (sym writes.seats)
-        (seats_stay sort t (watch old).seen c seen (claims_of w) same_role in_step.seated);
+        (seats_stay sort t (watch old).seen c seen (claims_of w) same_role
+        (ap (λ s. claims.is_map s.kind) wrote) in_step.seated);
     boxes = in_step.boxes;
     bare = record {
-      guards = in_step.bare.guards;
       snapshots = in_step.bare.snapshots;
       views = in_step.bare.views;
       node_maps = in_step.bare.node_maps;

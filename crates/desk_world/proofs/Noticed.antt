@@ -1,13 +1,12 @@
 -- What maps hold after a notice, as columns.
-use Rattle.std.proofs.Common.{◌≡◌, ℕ, Bool, true, false, cond, List, [], ◌∷◌, map, refl, sym, ap}
+use Rattle.std.proofs.Common.{◌≡◌, ℕ, true, cond, List, [], map, refl, sym, ap}
 use Rattle.std.proofs.Common.{◌∙◌}
 use Rattle.std.proofs.Common.{subst, Option, Some, None}
-use Rattle.std.specs.Prelude.{nat_eq, ◌&&◌, ◌-◌, pos, option_and_then, option_map}
-use Rattle.std.specs.FinMap as fin
+use Rattle.std.specs.Prelude.{nat_eq, ◌&&◌, ◌-◌, option_and_then, option_map}
+use Rattle.std.proofs.lemmas.Bool.{true≢false}
 use Rattle.base_items.specs.declared.items.Fact.{Fact}
 use Rattle.plain_digraph.specs.Rising.{with_item, without_item}
 use Rattle.plain_digraph.specs.PlainSteps.{Change, Untouched, Added, Moved, Erased, Cleared}
-use Rattle.observe_core.specs.declared.changes.Change as told
 use Rattle.observe_core.specs.declared.changes.Change.TheVariants.{Add, Shift, Build}
 use Rattle.observe_core.specs.declared.losses.Loss.{Loss}
 use Rattle.observe_core.specs.declared.losses.Loss.TheVariants.{Erase, Clear}
@@ -17,11 +16,11 @@ use Rattle.observe_core.specs.declared.kinds.After.TheVariants.{Keep, Detach}
 use Rattle.observe_core.specs.Held as held
 use Rattle.observe_core.specs.Held.{Held, Values, entry_id, making_of, OfValues}
 use Rattle.observe_core.specs.Guards.{fuse_part}
-use Rattle.observe_core.specs.Fits.{HeldFits}
+use Rattle.plain_digraph.specs.Facts.{fact_id}
 use Rattle.observe_core.specs.Seen.{Seen}
 use Rattle.observe_core.specs.Told.{new_entry}
 use Rattle.observe_core.specs.Changes.{told as told_of}
-use Rattle.observe_core.specs.Losses.{lost, leaves_at}
+use Rattle.observe_core.specs.Losses.{lost}
 use Rattle.observe_core.specs.Laws.{IsMadeAs}
 use Rattle.observe_core.proofs.MadeLemmas.{told-made, lost-made}
 use Rattle.observe_core.proofs.Undone.{entries_lack}
@@ -35,7 +34,7 @@ use Rattle.plain_world.specs.World as plain
 use Rattle.plain_world.specs.Following.{column_after, labels_after, held_after}
 use Rattle.desk_world.specs.declared.tables.MapKind.{MapKind}
 use Rattle.desk_world.specs.declared.tables.MapKind.TheVariants as maps
-use Rattle.desk_world.specs.Claims.{made_for, role_of}
+use Rattle.desk_world.specs.Claims.{is_map, made_for, role_of}
 use Rattle.desk_world.specs.Columns.{labels_of, column, labelled}
 use Rattle.desk_world.specs.Plain.{held_by}
 use Rattle.desk_world.specs.Looks.{seen_at}
@@ -63,13 +62,23 @@ seen_noticed (Loses loss) key ss differ = seen_lost loss key ss differ
 
 -- ---- a map stays, and holds what the notice makes of it
 
+pub map_kind : (kind : Kind) → is_map kind ≡ true → kind ≡ kinds.Map
+map_kind kinds.Map is = refl
+map_kind kinds.Quota is = absurd (true≢false (sym is))
+map_kind kinds.Loopless is = absurd (true≢false (sym is))
+map_kind kinds.Simple is = absurd (true≢false (sym is))
+map_kind kinds.OutCap is = absurd (true≢false (sym is))
+map_kind kinds.Fuse is = absurd (true≢false (sym is))
+map_kind kinds.Tally is = absurd (true≢false (sym is))
+
 pub record HearsAsMap (n : Notice) (s : Seen) : Type 0 where
   pub later : Seen
   pub hears : heard_by n s ≡ Some later
   pub held : later.held ≡ held_noticed n s.held
   pub made : IsMadeAs s later
 
-map_stays : (loss : Loss) (s : Seen) → s.kind ≡ kinds.Map → after_loss loss s ≡ Some (lost loss s)
+pub map_stays : (loss : Loss) (s : Seen) → s.kind ≡ kinds.Map
+    → after_loss loss s ≡ Some (lost loss s)
 map_stays (Erase f) s is =
     ap (λ k. cond (goes (cond (nat_eq (fuse_part k 1) 1 && nat_eq (s.left - fuse_part k 1) 0)
     Detach Keep)) None (Some (lost (Erase f) s))) is
@@ -111,6 +120,15 @@ change_by (Tells (Build all)) count = Untouched
 change_by (Loses (Erase f)) count = Erased f.id
 change_by (Loses Clear) count = Cleared count
 
+-- the values are those of these items
+abbrev pub ValuesFit : Held → List Fact → Type 0
+ValuesFit held.Nothing live = Unit {0}
+ValuesFit (Values t es) live = map entry_id es ≡ map fact_id live
+ValuesFit (held.Degree out ends) live = Unit {0}
+ValuesFit (held.Half added others kept valid) live = Unit {0}
+ValuesFit (held.Kept role all items) live = Unit {0}
+ValuesFit (held.Ties ties) live = Unit {0}
+
 module _ (t : held.MapType) where
   abbrev entries_noticed : Notice → List (held.Entry (held.ValueOf t))
       → List (held.Entry (held.ValueOf t))
@@ -129,7 +147,7 @@ module _ (t : held.MapType) where
   values_noticed (Loses Clear) es = refl
 
   column_noticed : (n : Notice) (live : List Fact) (count : ℕ)
-      (es : List (held.Entry (held.ValueOf t))) → CanHear n live → HeldFits (Values t es) live
+      (es : List (held.Entry (held.ValueOf t))) → CanHear n live → ValuesFit (Values t es) live
       → column (entries_noticed n es)
       ≡ column_after (held.default_of t) (change_by n count) (column es)
   column_noticed (Tells (Add f)) live count es can fits =
@@ -150,18 +168,18 @@ labels_noticed (Loses Clear) live count es can = refl
 
 module _ (n : Notice) (live : List Fact) (count : ℕ) (can : CanHear n live) where
   of_values : {Y : Type 0} (t : held.MapType) (read : Held → Y) (after : Y → Y) (h : Held)
-      → making_of h ≡ OfValues t → HeldFits h live
-      → ((es : List (held.Entry (held.ValueOf t))) → HeldFits (Values t es) live
+      → making_of h ≡ OfValues t → ValuesFit h live
+      → ((es : List (held.Entry (held.ValueOf t))) → ValuesFit (Values t es) live
       → read (Values t (entries_noticed t n es)) ≡ after (read (Values t es)))
       → read (held_noticed n h) ≡ after (read h)
   of_values {Y} t read after h made fits goes =
       let v = as_values t h made in
-      subst (λ x. HeldFits x live → read (held_noticed n x) ≡ after (read x)) (sym v.is)
+      subst (λ x. ValuesFit x live → read (held_noticed n x) ≡ after (read x)) (sym v.is)
       (λ fit. ap read (values_noticed t n v.entries) ∙ goes v.entries fit) fits
 
   -- the values of a map, or its degrees or true items, follow the change
   pub held_follows : (kind : MapKind) (h : Held) → making_of h ≡ made_for (role_of kind)
-      → HeldFits h live
+      → ValuesFit h live
       → held_by kind (held_noticed n h) ≡ held_after (change_by n count) (held_by kind h)
   held_follows maps.Ints h made fits =
       of_values held.Ints (held_by maps.Ints) (held_after (change_by n count)) h made fits
@@ -176,7 +194,7 @@ module _ (n : Notice) (live : List Fact) (count : ℕ) (can : CanHear n live) wh
   held_follows (maps.Trues map) h made fits = refl
 
   -- and so do the labels
-  pub labels_follow : (h : Held) → making_of h ≡ OfValues held.Labels → HeldFits h live
+  pub labels_follow : (h : Held) → making_of h ≡ OfValues held.Labels → ValuesFit h live
       → labels_of (held_noticed n h) ≡ labels_after (change_by n count) (labels_of h)
   labels_follow h made fits =
       of_values held.Labels labels_of (labels_after (change_by n count)) h made fits

@@ -18,6 +18,7 @@ use Rattle.plain_world.specs.Tables.{Name, Named}
 use Rattle.plain_world.specs.World as plain
 use Rattle.plain_world.specs.Following.{labelled}
 use Rattle.desk_world.specs.declared.tables.MapRow.{MapRow}
+use Rattle.desk_world.specs.declared.tables.GuardRow.{GuardRow}
 use Rattle.desk_world.specs.declared.tables.AttributeRow.{AttributeRow}
 use Rattle.desk_world.specs.declared.tables.AttributeRow.TheVariants as rows
 use Rattle.desk_world.specs.declared.world.World.{World}
@@ -28,7 +29,8 @@ use Rattle.desk_world.specs.Claims.{snap_claims, role_of}
 use Rattle.desk_world.specs.InStep.{IsBare, is_plain}
 use Rattle.desk_world.specs.Looks.{Look, looked}
 use Rattle.desk_world.specs.Plain.{world_seen, map_seen, labels_seen, attribute_seen, ties_seen}
-use Rattle.desk_world.specs.Plain.{guard_seen, snapshot_seen, seat_sort, held_by, tables_of}
+use Rattle.desk_world.specs.Plain.{guard_seen, guard_by, snapshot_seen, seat_sort, held_by}
+use Rattle.desk_world.specs.Plain.{tables_of}
 use Rattle.desk_world.proofs.Changing.{same_rows}
 use Rattle.desk_world.proofs.Seated.{all_left, all_right}
 use Rattle.desk_world.proofs.Written.{IsElsewhere}
@@ -61,6 +63,15 @@ module _ (look later : Look) where
         each es all.1,
       )
 
+  pub guards_agree : (table : List (Named GuardRow)) → AllOf Agrees (map guard_claim table)
+      → looked (guard_seen later) table ≡ looked (guard_seen look) table
+  guards_agree table all = same_rows (guard_seen look) (guard_seen later) table (each table all)
+    where
+      each : (table : List (Named GuardRow)) → AllOf Agrees (map guard_claim table)
+          → AllOf (λ (e : Named GuardRow). guard_seen later e.value ≡ guard_seen look e.value) table
+      each [] all = tt
+      each (e ∷ es) all = (ap (option_map (guard_by e.value.sort)) all.0, each es all.1)
+
   pub attributes_agree : (ties others : ItemSort → Option Seen) (table : List (Named AttributeRow))
       → AllOf (λ e. is_plain e.value ≡ true) table
       → looked (attribute_seen others) table ≡ looked (attribute_seen ties) table
@@ -83,14 +94,14 @@ module _ (look later : Look) where
 module _ {O : Type 0} (w : World O) (bare : IsBare w) (g : Digraph) (look later : Look)
     (pool : List GuardWord) where
   -- what hangs on no item of the sorts
-  others_agree : (looked (guard_seen later) w.guards.rows ≡ looked (guard_seen look) w.guards.rows)
+  others_agree : AllOf (Agrees look later) (map guard_claim w.guards.rows)
+      → (looked (guard_seen later) w.guards.rows ≡ looked (guard_seen look) w.guards.rows)
       × (looked (snapshot_seen g later) w.snapshots.rows
       ≡ looked (snapshot_seen g look) w.snapshots.rows)
       × (looked (attribute_seen (ties_seen later w)) w.attributes.rows
       ≡ looked (attribute_seen (ties_seen look w)) w.attributes.rows)
-  others_agree = (
-    subst (λ table. looked (guard_seen later) table ≡ looked (guard_seen look) table)
-        (sym bare.guards) refl,
+  others_agree guards = (
+    guards_agree look later w.guards.rows guards,
     subst (λ table. looked (snapshot_seen g later) table ≡ looked (snapshot_seen g look) table)
         (sym bare.snapshots) refl,
     attributes_agree look later (ties_seen look w) (ties_seen later w) w.attributes.rows
@@ -105,9 +116,10 @@ module _ {O : Type 0} (w : World O) (bare : IsBare w) (g : Digraph) (look later 
       → later other (tables_of w other).labels.0 ≡ look other (tables_of w other).labels.0)
       → ((other : ItemSort) → AllOf (Agrees look later)
       (map (map_claim other) (tables_of w other).maps.rows))
+      → AllOf (Agrees look later) (map guard_claim w.guards.rows)
       → world_seen g later pool w ≡ labelled (world_seen g look pool w) sort id name
-  one_label sorts.Node id name here apart agree =
-      let o = others_agree in
+  one_label sorts.Node id name here apart agree guards =
+      let o = others_agree guards in
       let node_maps = rows_agree look later sorts.Node w.nodes.maps.rows (agree sorts.Node) in
       let arc_maps = rows_agree look later sorts.Arc w.arcs.maps.rows (agree sorts.Arc) in
       let arc_labels = ap labels_seen (apart sorts.Arc (λ e. no_arc e)) in
@@ -121,8 +133,8 @@ module _ {O : Type 0} (w : World O) (bare : IsBare w) (g : Digraph) (look later 
     where
       no_arc : sorts.Node ≡ sorts.Arc → ⊥
       no_arc e = true≢false (ap (λ s. is_sort s sorts.Node) e)
-  one_label sorts.Arc id name here apart agree =
-      let o = others_agree in
+  one_label sorts.Arc id name here apart agree guards =
+      let o = others_agree guards in
       let node_maps = rows_agree look later sorts.Node w.nodes.maps.rows (agree sorts.Node) in
       let arc_maps = rows_agree look later sorts.Arc w.arcs.maps.rows (agree sorts.Arc) in
       let node_labels = ap labels_seen (apart sorts.Node (λ e. no_node e)) in
@@ -149,22 +161,33 @@ module _ {O : Type 0} (w : World O) (differ : ClaimsDiffer (claims_of w)) where
   abbrev tables : List Claim
   tables = map (map_claim sorts.Node) w.nodes.maps.rows ++ after_nodes
 
+  all_elsewhere : (x : ItemSort) → AllOf (IsElsewhere x (tables_of w x).labels.0) tables
+  all_elsewhere sorts.Node =
+      (elsewhere sorts.Node w.nodes.labels.0
+      (claims.claim sorts.Node w.nodes.ties.0 claims.Ties
+      ∷ claims.claim sorts.Arc w.arcs.labels.0 claims.Labels
+      ∷ claims.claim sorts.Arc w.arcs.ties.0 claims.Ties ∷ tables) differ.0).1.1.1
+  all_elsewhere sorts.Arc =
+      (elsewhere sorts.Arc w.arcs.labels.0
+      (claims.claim sorts.Arc w.arcs.ties.0 claims.Ties ∷ tables) differ.1.1.0).1
+
+  -- every guard sits elsewhere than the labels
+  pub guards_elsewhere : (sort : ItemSort)
+      → AllOf (IsElsewhere sort (tables_of w sort).labels.0) (map guard_claim w.guards.rows)
+  guards_elsewhere sort =
+      all_left (IsElsewhere sort (tables_of w sort).labels.0) (map guard_claim w.guards.rows)
+      (flat_map snap_claims w.snapshots.rows)
+      (all_right (IsElsewhere sort (tables_of w sort).labels.0)
+      (map (map_claim sorts.Arc) w.arcs.maps.rows) after_arcs
+      (all_right (IsElsewhere sort (tables_of w sort).labels.0)
+      (map (map_claim sorts.Node) w.nodes.maps.rows) after_nodes (all_elsewhere sort)))
+
   -- every map sits elsewhere than the labels
   pub maps_elsewhere : (sort other : ItemSort)
       → AllOf (IsElsewhere sort (tables_of w sort).labels.0)
       (map (map_claim other) (tables_of w other).maps.rows)
-  maps_elsewhere sort other = pick other (all sort)
+  maps_elsewhere sort other = pick other (all_elsewhere sort)
     where
-      all : (x : ItemSort) → AllOf (IsElsewhere x (tables_of w x).labels.0) tables
-      all sorts.Node =
-          (elsewhere sorts.Node w.nodes.labels.0
-          (claims.claim sorts.Node w.nodes.ties.0 claims.Ties
-          ∷ claims.claim sorts.Arc w.arcs.labels.0 claims.Labels
-          ∷ claims.claim sorts.Arc w.arcs.ties.0 claims.Ties ∷ tables) differ.0).1.1.1
-      all sorts.Arc =
-          (elsewhere sorts.Arc w.arcs.labels.0
-          (claims.claim sorts.Arc w.arcs.ties.0 claims.Ties ∷ tables) differ.1.1.0).1
-
       pick : (y : ItemSort) → AllOf (IsElsewhere sort (tables_of w sort).labels.0) tables
           → AllOf (IsElsewhere sort (tables_of w sort).labels.0)
           (map (map_claim y) (tables_of w y).maps.rows)

@@ -1,7 +1,9 @@
 -- The texts of a row are written to the maps one after the other, and then its label is put.
 use Rattle.std.proofs.Common.{◌≡◌, ℕ, ◌+◌, ◌<◌, List, [], ◌∷◌, ◌++◌, map, length, take, drop}
-use Rattle.std.proofs.Common.{get_or, refl, sym, ap, ◌∙◌, subst, arith}
+use Rattle.std.proofs.Common.{get_or, false, Some, refl, sym, ap, ◌∙◌, subst, arith}
+use Rattle.std.specs.Prelude.{slice_get}
 use Rattle.std.proofs.lemmas.List.{length-append, length-take-le}
+use Rattle.std.proofs.lemmas.Option.{slice_get-get_or}
 use Rattle.base_items.specs.declared.items.ItemSort.{ItemSort}
 use Rattle.base_items.specs.declared.items.ItemSort.TheVariants.{Node, Arc}
 use Rattle.token_text.specs.Names.{has_twice}
@@ -109,6 +111,29 @@ module _ (world : World) (sort : ItemSort) (id : ℕ) (columns : Cells)
     may_write_next =
         may_write now texts (take place columns) name (drop (place + 1) columns)
         (name_between columns place name below at) first.1
+
+    -- the next name is that of the row at the place
+    pub row_named : (names : Cells) → map (λ e. e.name) (attached now sort).maps ≡ names
+        → slice_get names place ≡ Some name
+    row_named names are =
+        let maps = (attached world sort).maps in
+        let same : columns ≡ names =
+        sym has.names ∙ sym (names_stay maps id texts)
+        ∙ ap (map (λ e. e.name)) (sym (ap (λ w. (attached w sort).maps) first.1
+        ∙ maps_are world sort (with_texts maps id texts)))
+        ∙ are in
+        ap (λ list. slice_get list place) (sym same)
+        ∙ slice_get-get_or columns place name below ∙ ap Some (sym at)
+
+    pub names_differ : (names : Cells) → map (λ e. e.name) (attached now sort).maps ≡ names
+        → has_twice names ≡ false
+    names_differ names are =
+        let maps = (attached world sort).maps in
+        ap has_twice (sym are
+        ∙ ap (map (λ e. e.name)) (ap (λ w. (attached w sort).maps) first.1
+        ∙ maps_are world sort (with_texts maps id texts))
+        ∙ names_stay maps id texts ∙ has.names)
+        ∙ has.differ
 
     pub next_written : (later : World) (text : List ℕ)
         → later ≡ with_map_changed now sort name (put_at (values.Text text) id)

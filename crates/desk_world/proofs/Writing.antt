@@ -24,7 +24,7 @@ use Rattle.plain_world.specs.Following.{labelled as labelled_world}
 use Rattle.desk_seats.specs.Contents.{labels_in, among, labels_among, holding, StillFits}
 use Rattle.desk_world.specs.declared.world.World.{World}
 use Rattle.desk_world.specs.Claims as claims
-use Rattle.desk_world.specs.Claims.{Claim, Role, Plays, claims_of, map_claim}
+use Rattle.desk_world.specs.Claims.{Claim, Role, Plays, claims_of, map_claim, guard_claim}
 use Rattle.desk_world.specs.Columns.{labelled}
 use Rattle.desk_world.specs.InStep.{AreInStep, AreSeated}
 use Rattle.desk_world.specs.Looks.{Look, look_in}
@@ -32,6 +32,7 @@ use Rattle.desk_world.specs.Plain.{plain_of, look_of, tables_of, labels_seen, wo
 use Rattle.desk_world.proofs.Columns.{labels_swapped}
 use Rattle.desk_world.proofs.Labelled.{HasLabels}
 use Rattle.desk_world.proofs.Relabelled.{one_label, maps_elsewhere, labels_elsewhere, Agrees}
+use Rattle.desk_world.proofs.Relabelled.{guards_elsewhere}
 use Rattle.desk_world.proofs.Seated.{all_so}
 use Rattle.desk_world.specs.Entries.{labels_at}
 use Rattle.desk_world.proofs.Written.{reseated, look_put, look_elsewhere, look_kept, seats_stay}
@@ -98,6 +99,9 @@ module _ {O : Type 0} (watch : O → Watched) (w : World O) (sort : ItemSort) (o
       (Agrees (look_of watch w) (look_in (reseated sort t c)))
       agree (map (map_claim other) (tables_of w other).maps.rows)
       (maps_elsewhere w in_step.seated.claims_differ sort other))
+      (all_so (IsElsewhere sort key) (Agrees (look_of watch w) (look_in (reseated sort t c)))
+      agree (map guard_claim w.guards.rows)
+      (guards_elsewhere w in_step.seated.claims_differ sort))
 
   pub written_in_step : AreInStep watch later
   written_in_step = record {
@@ -105,10 +109,9 @@ module _ {O : Type 0} (watch : O → Watched) (w : World O) (sort : ItemSort) (o
     seated = subst (AreSeated (claims_of w)) (sym (chains_now sort))
         (seats_stay sort t (watch old).seen (chains_seen watch w.graph.chains) has.seen
         (claims_of w)
-        same_role in_step.seated);
+        same_role (ap (λ s. claims.is_map s.kind) wrote) in_step.seated);
     boxes = in_step.boxes;
     bare = record {
-      guards = in_step.bare.guards;
       snapshots = in_step.bare.snapshots;
       views = in_step.bare.views;
       node_maps = in_step.bare.node_maps;

@@ -21,10 +21,11 @@ use Rattle.alter_graph.specs.State.{AlterOf, state_of}
 use Rattle.alter_graph.specs.Lending.{Writes, Rewrites, graph_with, chains_with}
 use Rattle.desk_seats.specs.Contents.{StillFits}
 use Rattle.desk_world.specs.declared.world.World.{World}
-use Rattle.desk_world.specs.Claims.{Claim, Role, Guard, Sits, Plays, claim, is_claimed}
-use Rattle.desk_world.specs.InStep.{AreSeated, AreInStep, Differ, keys_in}
+use Rattle.desk_world.specs.Claims.{Claim, Role, Guard, Sits, Plays, claim, is_claimed, is_map}
+use Rattle.desk_world.specs.InStep.{AreSeated, AreInStep, Differ, keys_in, guards_seated}
 use Rattle.desk_world.specs.Looks.{Look, look_in, seen_at}
 use Rattle.desk_world.proofs.Following.{same_sort}
+use Rattle.desk_world.proofs.GuardOrder.{guards_among, guards_put, left_stays}
 use Rattle.desk_world.proofs.Looks.{seen_put, seen_put_other}
 use Rattle.desk_world.proofs.Seated.{SitsIn, all_so}
 
@@ -147,15 +148,28 @@ module _ (sort : ItemSort) (t : SeatSeen) (was : Seen) (c : ChainsSeen)
     | inr differ ↦ ap (map seat_key) (there sort other t c differ)
   ]
 
+  guards_stay : is_map t.seen.kind ≡ is_map was.kind → (other : ItemSort)
+      → guards_seated other (reseated sort t c) ≡ guards_seated other c
+  guards_stay kind other = elim (same_sort sort other) [
+    | inl same ↦
+        subst (λ s. guards_seated s (reseated sort t c) ≡ guards_seated s c) same
+        (ap guards_among (seats_here sort t c) ∙ guards_put t (seats_in sort c) was found kind)
+    | inr differ ↦ ap guards_among (there sort other t c differ)
+  ]
+
   -- the claims stay
   pub seats_stay : (list : List Claim) → ((role : Role) → Plays role was → Plays role t.seen)
-      → AreSeated list c → AreSeated list (reseated sort t c)
-  seats_stay list goes seated = record {
+      → is_map t.seen.kind ≡ is_map was.kind → AreSeated list c
+      → AreSeated list (reseated sort t c)
+  seats_stay list goes kind seated = record {
     there = all_so (SitsIn c) (SitsIn (reseated sort t c)) stays list seated.there;
     no_other = λ other. subst (AllOf (λ key. is_claimed list other key ≡ true))
         (sym (keys_stay other)) (seated.no_other other);
     claims_differ = seated.claims_differ;
     keys_differ = λ other. subst Differ (sym (keys_stay other)) (seated.keys_differ other);
+    in_order = λ other. guards_stay kind other ∙ seated.in_order other;
+    none_left = λ other.
+        left_stays sort other (put_seat t (seats_in sort c)) c ∙ seated.none_left other;
   }
     where
       stays : (x : Claim) → SitsIn c x → SitsIn (reseated sort t c) x

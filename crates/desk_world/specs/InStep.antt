@@ -1,15 +1,16 @@
 -- That the seats of a world are in step with its digraph and its tables.
-use Rattle.std.specs.Prelude.{◌≡◌, ℕ, ◌+◌, ◌^◌, ◌≤◌, Bool, true, false, List, [], ◌∷◌, map}
+use Rattle.std.specs.Prelude.{◌≡◌, ℕ, ◌+◌, ◌^◌, ◌≤◌, Bool, true, false, ◌&&◌, not, List, []}
+use Rattle.std.specs.Prelude.{◌∷◌, map, filter}
 use Rattle.base_items.specs.declared.items.ItemSort.{ItemSort}
 use Rattle.base_items.specs.declared.limits.TheConstants.{MAX_STAMP}
 use Rattle.plain_digraph.specs.Lists.{AllOf, has}
 use Rattle.observe_core.specs.Seen.{Seen, Watched}
 use Rattle.observe_core.specs.Untold.{TracksNothing}
-use Rattle.notify_chain.specs.Seats.{seat_key}
-use Rattle.alter_graph.specs.Chains.{ChainsSeen, chains_seen, seats_in}
+use Rattle.notify_chain.specs.Seats.{SeatSeen, seat_key}
+use Rattle.alter_graph.specs.Chains.{ChainsSeen, chain_in, chains_seen, seats_in}
 use Rattle.alter_graph.specs.State as graph
 use Rattle.alter_graph.specs.State.{state_of}
-use Rattle.alter_graph.specs.Attaching.{HasNoCounts}
+use Rattle.alter_graph.specs.Verdict.{is_sort}
 use Rattle.plain_world.specs.Valid.{IsWorld}
 use Rattle.desk_world.specs.declared.tables.MapKind.{MapKind}
 use Rattle.desk_world.specs.declared.tables.MapKind.TheVariants as maps
@@ -18,8 +19,8 @@ use Rattle.desk_world.specs.declared.tables.AttributeRow.TheVariants as rows
 use Rattle.desk_world.specs.declared.world.World.{World}
 use Rattle.desk_world.specs.Looks.{look_in}
 use Rattle.desk_world.specs.Plain.{plain_of}
-use Rattle.desk_world.specs.Claims.{Claim, Guard, Plays, Sits, claims_of, is_claimed}
-use Rattle.desk_world.specs.Claims.{ClaimsDiffer}
+use Rattle.desk_world.specs.Claims.{Claim, Guard, Plays, Sits, claims_of, is_claimed, is_map}
+use Rattle.desk_world.specs.Claims.{ClaimsDiffer, has_map_kind}
 
 -- the keys of the seats of a chain, oldest first
 abbrev pub keys_in : ItemSort → ChainsSeen → List ℕ
@@ -30,19 +31,40 @@ abbrev pub Differ : List ℕ → Type 0
 Differ [] = Unit {0}
 Differ (key ∷ keys) = (has keys key ≡ false) × Differ keys
 
--- the seats are exactly those that are claimed, each with its role
+-- ---- guards
+
+-- the keys of the seats of a chain in which guards sit, oldest first
+abbrev pub is_guard_seat : SeatSeen → Bool
+is_guard_seat s = not (is_map s.seen.kind)
+
+abbrev pub guards_seated : ItemSort → ChainsSeen → List ℕ
+guards_seated sort c = map seat_key (filter is_guard_seat (seats_in sort c))
+
+-- the keys of the guards of the sort that are claimed, in the order of the claims
+abbrev pub is_guard_of : ItemSort → Claim → Bool
+is_guard_of sort x = is_sort x.sort sort && not (has_map_kind x.role)
+
+abbrev pub guards_claimed : ItemSort → List Claim → List ℕ
+guards_claimed sort claims = map (λ x. x.key) (filter (is_guard_of sort) claims)
+
+-- ---- seats
+
+-- the seats are exactly those that are claimed, each with its role; guards sit in the order of
+-- their
+-- claims, and no key of a guard that left is to be taken
 pub record AreSeated (claims : List Claim) (c : ChainsSeen) : Type 0 where
   pub there : AllOf (λ x. Sits x.role (look_in c x.sort x.key)) claims
   pub no_other : (sort : ItemSort)
       → AllOf (λ key. is_claimed claims sort key ≡ true) (keys_in sort c)
   pub claims_differ : ClaimsDiffer claims
   pub keys_differ : (sort : ItemSort) → Differ (keys_in sort c)
+  pub in_order : (sort : ItemSort) → guards_seated sort c ≡ guards_claimed sort claims
+  pub none_left : (sort : ItemSort) → (chain_in sort c).left ≡ []
 
--- a guard that tracks nothing and has counted nothing
+-- a guard that tracks nothing; arming it sets all else
 pub record IsBox (s : Seen) : Type 0 where
   pub guard : Plays Guard s
   pub empty : TracksNothing s
-  pub counts : HasNoCounts s
 
 -- whether a map has values of its own
 abbrev pub has_values : MapKind → Bool
@@ -56,9 +78,8 @@ abbrev pub is_plain : AttributeRow → Bool
 is_plain (rows.Plain text) = true
 is_plain (rows.Tied sort number) = false
 
--- no command that is run yet makes a guard, a snapshot, a view, a degree, an index or a tie
+-- no command that is run yet makes a snapshot, a view, a degree, an index or a tie
 pub record IsBare {O : Type 0} (w : World O) : Type 0 where
-  pub guards : w.guards.rows ≡ []
   pub snapshots : w.snapshots.rows ≡ []
   pub views : w.views.rows ≡ []
   pub node_maps : AllOf (λ e. has_values e.value.kind ≡ true) w.nodes.maps.rows
@@ -66,12 +87,12 @@ pub record IsBare {O : Type 0} (w : World O) : Type 0 where
   pub attributes : AllOf (λ e. is_plain e.value ≡ true) w.attributes.rows
 
 module _ {O : Type 0} (watch : O → Watched) where
-  -- each box of the pool is a guard that nothing was told
+  -- each box of the pool is a guard that tracks nothing
   abbrev pub AreBoxes : List O → Type 0
   AreBoxes boxes = AllOf (λ o. IsBox (watch o).seen) boxes
 
   -- the observers are in step with the digraph, the seats are exactly those that the tables speak
-  -- of, each with its role, and the boxes of the pool were told nothing
+  -- of, each with its role, and the boxes of the pool track nothing
   pub record AreInStep (w : World O) : Type 0 where
     pub graph : graph.IsInStep (state_of watch w.graph)
     pub seated : AreSeated (claims_of w) (chains_seen watch w.graph.chains)

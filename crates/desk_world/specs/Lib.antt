@@ -4,8 +4,11 @@ pub mod Copies
 pub mod Plain
 pub mod Claims
 pub mod InStep
+pub mod Leaving
 pub mod Entries
 pub mod Faults
+pub mod Edits
+pub mod Boxes
 pub mod Lines
 pub mod Values
 pub mod Loading
@@ -14,3 +17,4 @@ pub mod Founding
 pub mod RowPlaces
 pub mod MapTables
 pub mod Describing
+pub mod Vetoes

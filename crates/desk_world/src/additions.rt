@@ -1,32 +1,18 @@
 //! Nodes and arcs are added.
 
-ghost use Rattle.std.specs.Prelude.{◌≡◌, ◌+◌, ◌<◌, ◌^◌};
+ghost use Rattle.std.specs.Prelude.{◌+◌, ◌<◌, ◌^◌};
 ghost use Rattle.script_words.specs.declared.commands.Command.TheVariants as command;
-ghost use Rattle.report_text.specs.declared.faults.StepFault.TheVariants as faults;
-ghost use Rattle.alter_graph.specs.declared.faults.AlterFault.TheVariants as alter_faults;
 ghost use Rattle.desk_world.specs.Plain.{plain_of};
 ghost use Rattle.desk_world.specs.InStep.{IsInStep, HasStamps};
 ghost use Rattle.desk_world.specs.Faults.{Answers};
 
 use crate::world::World;
-use alter_graph::AlterFault;
 use base_items::{ItemSort, Node};
 use desk_seats::Seat;
 use observe_core::Observer;
 use report_text::{Reply, StepFault};
 use std::alloc::Global;
 use token_text::{Text, copy_text};
-
-/// Why an alteration isn't done that no guard refuses and that passes no limit.
-fn refusal(fault: AlterFault) -> StepFault
-    requires { fault ≡ alter_faults.Memory }
-    ensures { result ≡ faults.Memory }
-{
-    match fault {
-        AlterFault::Memory => StepFault::Memory,
-        _ => unreachable!(),
-    }
-}
 
 impl<B: Observer> World<Seat<B>> {
     /// Adds a node with this label.
@@ -45,7 +31,7 @@ impl<B: Observer> World<Seat<B>> {
         let label = copy_text(alloc, label.as_bytes())?;
         self.reserve_label(ItemSort::Node, &label)?;
         match self.graph.add_node() {
-            Err(fault) => Err(refusal(fault)),
+            Err(fault) => Err(self.refusal(alloc, fault)),
             Ok(node) => {
                 self.put_label(ItemSort::Node, node.0, label);
                 Ok(Reply::Quiet)
@@ -77,7 +63,7 @@ impl<B: Observer> World<Seat<B>> {
         let label = copy_text(alloc, label.as_bytes())?;
         self.reserve_label(ItemSort::Arc, &label)?;
         match self.graph.add_arc(Node(source), Node(target)) {
-            Err(fault) => Err(refusal(fault)),
+            Err(fault) => Err(self.refusal(alloc, fault)),
             Ok(arc) => {
                 self.put_label(ItemSort::Arc, arc.0, label);
                 Ok(Reply::Quiet)

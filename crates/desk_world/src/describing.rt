@@ -150,7 +150,7 @@ impl<B: Observer> World<Seat<B>> {
     {
         let mut place = 0;
         for text in texts.into_vec() {
-            self.write_value(sort, &columns[place], id, Value::Text(text));
+            self.write_at(sort, place, &columns[place], id, Value::Text(text));
             place += 1;
         }
     }

@@ -1,6 +1,6 @@
 //! Items and their labels.
 
-ghost use Rattle.std.specs.Prelude.{◌≡◌, ◌≤◌, Some, IfOk, OnOk, IfNone};
+ghost use Rattle.std.specs.Prelude.{◌≡◌, ◌≤◌, ◌∷◌, [], Some, IfOk, OnOk, IfNone};
 ghost use Rattle.index_maps.specs.RefViews.{IsFreeLabel};
 ghost use Rattle.plain_digraph.specs.Items.{IsLive};
 ghost use Rattle.plain_world.specs.World as plain;
@@ -10,7 +10,7 @@ ghost use Rattle.desk_seats.specs.Forms.{HasForm, labels_form};
 ghost use Rattle.desk_world.specs.Plain.{plain_of, tables_of, look_of};
 ghost use Rattle.desk_world.specs.InStep.{IsInStep};
 ghost use Rattle.desk_world.specs.Entries.{labels_at};
-ghost use Rattle.desk_world.specs.Faults.{Meets};
+ghost use Rattle.desk_world.specs.Faults.{Meets, MeetsAll};
 
 use crate::refusals::{taken, unknown};
 use crate::tables::ItemTables;
@@ -33,8 +33,8 @@ impl<B: Observer> World<Seat<B>> {
         }
     }
 
-    /// The labels of a sort.
-    fn labels(&self, sort: ItemSort) -> &Seat<B>
+    /// The seat of the labels of a sort.
+    pub(crate) fn labels(&self, sort: ItemSort) -> &Seat<B>
         requires { IsInStep ⟦<Seat<B> as Observer>⟧.watch self.now }
         ensures form { HasForm labels_form (⟦<Seat<B> as Observer>⟧.watch result.now) }
         ensures seen { look_of ⟦<Seat<B> as Observer>⟧.watch self.now sort
@@ -65,7 +65,21 @@ impl<B: Observer> World<Seat<B>> {
         ensures { result.now
             ≡ plain.label_of (plain_of ⟦<Seat<B> as Observer>⟧.watch self.now) sort id }
     {
-        match self.labels(sort).label(id) {
+        self.label_in(self.labels(sort), sort, id)
+    }
+
+    /// The label of a live item, looked up in the seat of the labels of its sort: walks take the
+    /// seat once.
+    pub(crate) fn label_in<'a>(&self, labels: &'a Seat<B>, sort: ItemSort, id: u32) -> &'a Text
+        requires in_step { IsInStep ⟦<Seat<B> as Observer>⟧.watch self.now }
+        requires seen { look_of ⟦<Seat<B> as Observer>⟧.watch self.now sort
+            (tables_of self.now sort).labels.0
+            ≡ Some (⟦<Seat<B> as Observer>⟧.watch labels.now).seen }
+        requires live { IsLive self.now.graph.graph.graph sort id }
+        ensures { result.now
+            ≡ plain.label_of (plain_of ⟦<Seat<B> as Observer>⟧.watch self.now) sort id }
+    {
+        match labels.label(id) {
             Some(label) => label,
             None => unreachable!(),
         }
@@ -88,6 +102,28 @@ impl<B: Observer> World<Seat<B>> {
             Some(id) => Ok(id),
             None => Err(unknown(alloc, name)),
         }
+    }
+
+    /// An item and a node, each by its label. `Unknown` of the first label that none has.
+    pub(crate) fn find_with_node(
+        &self,
+        alloc: Global,
+        sort: ItemSort,
+        name: &Text,
+        node: &Text,
+    ) -> Result<(u32, u32), StepFault>
+        requires { IsInStep ⟦<Seat<B> as Observer>⟧.watch self.now }
+        ensures meets { let world = plain_of ⟦<Seat<B> as Observer>⟧.watch self.now in
+            MeetsAll world (demands.There (demands.Labels sort) name.now
+            ∷ demands.There (demands.Labels ItemSort.Node) node.now ∷ []) result }
+        ensures found { let world = plain_of ⟦<Seat<B> as Observer>⟧.watch self.now in
+            IfOk result (λ ids. item_named world sort name.now ≡ Some ids.0) }
+        ensures node { let world = plain_of ⟦<Seat<B> as Observer>⟧.watch self.now in
+            IfOk result (λ ids. item_named world ItemSort.Node node.now ≡ Some ids.1) }
+    {
+        let id = self.find_item(alloc, sort, name)?;
+        let end = self.find_item(alloc, ItemSort::Node, node)?;
+        Ok((id, end))
     }
 
     /// Asks that no item has the label. `Taken` where one has it.

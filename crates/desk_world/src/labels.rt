@@ -1,6 +1,8 @@
 //! Labels of new items.
 
-ghost use Rattle.std.specs.Prelude.{◌≡◌, ◌≤◌, None, OnOk};
+ghost use Rattle.std.specs.Prelude.{◌≡◌, ◌≤◌, false, None, OnOk, IfOk};
+ghost use Rattle.base_items.specs.declared.items.ItemSort.{ItemSort};
+ghost use Rattle.alter_graph.specs.Verdict.{is_sort};
 ghost use Rattle.index_maps.specs.RefViews.{HasLabel, IsFreeLabel};
 ghost use Rattle.plain_world.specs.Following.{labelled};
 ghost use Rattle.desk_world.specs.Plain.{plain_of};
@@ -11,8 +13,8 @@ use crate::world::World;
 use base_items::ItemSort;
 use desk_seats::Seat;
 use observe_core::Observer;
-use std::alloc::AllocError;
-use token_text::Text;
+use std::alloc::{AllocError, Global};
+use token_text::{Text, copy_text};
 
 impl<B: Observer> World<Seat<B>> {
     /// Makes room for a label that no item has. The error is want of memory; all else is as before.
@@ -27,6 +29,9 @@ impl<B: Observer> World<Seat<B>> {
         ensures graph { self.new.graph.graph ≡ self.old.graph.graph }
         ensures room { OnOk result
             (1 ≤ room_for_labels ⟦<Seat<B> as Observer>⟧.watch self.new sort) }
+        ensures others { (other : ItemSort) → is_sort sort other ≡ false
+            → room_for_labels ⟦<Seat<B> as Observer>⟧.watch self.new other
+            ≡ room_for_labels ⟦<Seat<B> as Observer>⟧.watch self.old other }
         ensures in_step { AreInStep ⟦<Seat<B> as Observer>⟧.watch self.new }
         ensures pool { self.new.pool ≡ self.old.pool }
     {
@@ -35,6 +40,36 @@ impl<B: Observer> World<Seat<B>> {
             None => unreachable!(),
             Some(seat) => seat.reserve_label(label),
         }
+    }
+
+    /// A label that no item has, copied, with room for it. The error is want of memory; all else is
+    /// as before.
+    pub(crate) fn ready_label(
+        &mut self,
+        alloc: Global,
+        sort: ItemSort,
+        label: &Text,
+    ) -> Result<Text, AllocError>
+        requires in_step { AreInStep ⟦<Seat<B> as Observer>⟧.watch self.old }
+        requires free { IsFreeLabel label.now
+            (labels_at ⟦<Seat<B> as Observer>⟧.watch self.old sort) }
+        ensures label { IfOk result (λ text. text ≡ label.now) }
+        ensures same { plain_of ⟦<Seat<B> as Observer>⟧.watch self.new
+            ≡ plain_of ⟦<Seat<B> as Observer>⟧.watch self.old }
+        ensures labels { labels_at ⟦<Seat<B> as Observer>⟧.watch self.new sort
+            ≡ labels_at ⟦<Seat<B> as Observer>⟧.watch self.old sort }
+        ensures graph { self.new.graph.graph ≡ self.old.graph.graph }
+        ensures room { OnOk result
+            (1 ≤ room_for_labels ⟦<Seat<B> as Observer>⟧.watch self.new sort) }
+        ensures others { (other : ItemSort) → is_sort sort other ≡ false
+            → room_for_labels ⟦<Seat<B> as Observer>⟧.watch self.new other
+            ≡ room_for_labels ⟦<Seat<B> as Observer>⟧.watch self.old other }
+        ensures in_step { AreInStep ⟦<Seat<B> as Observer>⟧.watch self.new }
+        ensures pool { self.new.pool ≡ self.old.pool }
+    {
+        let text = copy_text(alloc, label.as_bytes())?;
+        self.reserve_label(sort, &text)?;
+        Ok(text)
     }
 
     /// Gives a label that no item has to a live item without one, by the room of one label.
@@ -47,6 +82,9 @@ impl<B: Observer> World<Seat<B>> {
             ≡ labelled (plain_of ⟦<Seat<B> as Observer>⟧.watch self.old) sort id label }
         ensures in_step { AreInStep ⟦<Seat<B> as Observer>⟧.watch self.new }
         ensures graph { self.new.graph.graph ≡ self.old.graph.graph }
+        ensures others { (other : ItemSort) → is_sort sort other ≡ false
+            → room_for_labels ⟦<Seat<B> as Observer>⟧.watch self.new other
+            ≡ room_for_labels ⟦<Seat<B> as Observer>⟧.watch self.old other }
         ensures pool { self.new.pool ≡ self.old.pool }
     {
         let key = self.tables(sort).labels;

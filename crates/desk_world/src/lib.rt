@@ -3,10 +3,15 @@
 #![tactic(auto)]
 
 mod additions;
+mod alterations;
+mod altering;
 mod describing;
 mod documents;
+mod edits;
+mod guards;
 mod items;
 mod labels;
+mod leaving;
 mod listings;
 mod loading;
 mod map_changes;
@@ -15,11 +20,14 @@ mod map_tables;
 mod maps;
 mod opening;
 mod orders;
+mod pool;
 mod refusals;
 mod saving;
+mod splits;
 mod steps;
 mod tables;
 mod values;
+mod vetoes;
 mod world;
 
 pub use steps::built;

@@ -1,11 +1,11 @@
 //! Listings of what a view shows.
 
-ghost use Rattle.std.specs.Prelude.{◌≡◌, true, map, IfOk, OnOk};
+ghost use Rattle.std.specs.Prelude.{◌≡◌, true, Some, map, IfOk, OnOk};
 ghost use Rattle.plain_digraph.specs.Items as items;
 ghost use Rattle.plain_world.specs.World as plain;
 ghost use Rattle.plain_world.specs.Demands as demands;
 ghost use Rattle.plain_world.specs.Views.{is_base};
-ghost use Rattle.desk_world.specs.Plain.{plain_of};
+ghost use Rattle.desk_world.specs.Plain.{plain_of, look_of};
 ghost use Rattle.desk_world.specs.InStep.{IsInStep};
 ghost use Rattle.desk_world.specs.Faults.{Meets};
 ghost use Rattle.desk_world.specs.Lines.{node_line, arc_line};
@@ -49,9 +49,11 @@ impl<B: Observer> World<Seat<B>> {
             IfOk result (λ lines. lines ≡ map (node_line world) (items.ids world.graph.nodes)) }
     {
         let nodes = node_order(alloc, self.graph.graph())?;
+        let labels = self.labels(ItemSort::Node);
         let mut lines = Vec::new(alloc);
         for id in nodes.as_slice() {
-            let name = copy_text(alloc, self.label_of(ItemSort::Node, *id).as_bytes())?;
+            let label = self.label_in(labels, ItemSort::Node, *id);
+            let name = copy_text(alloc, label.as_bytes())?;
             lines.push(NodeLine { id: *id, name })?;
         }
         Ok(List::from_vec(lines))
@@ -65,16 +67,28 @@ impl<B: Observer> World<Seat<B>> {
             IfOk result (λ lines. lines ≡ map (arc_line world) (items.all_arcs world.graph)) }
     {
         let arcs = arc_order(alloc, self.graph.graph())?;
+        let node_labels = self.labels(ItemSort::Node);
+        let arc_labels = self.labels(ItemSort::Arc);
         let mut lines = Vec::new(alloc);
         for id in arcs.as_slice() {
-            lines.push(self.arc_line(alloc, *id)?)?;
+            lines.push(self.arc_line(alloc, node_labels, arc_labels, *id)?)?;
         }
         Ok(List::from_vec(lines))
     }
 
-    /// An arc with its label and those of its ends.
-    fn arc_line(&self, alloc: Global, id: u32) -> Result<ArcLine, AllocError>
+    /// An arc with its label and those of its ends, looked up in the seats of the labels.
+    fn arc_line(
+        &self,
+        alloc: Global,
+        node_labels: &Seat<B>,
+        arc_labels: &Seat<B>,
+        id: u32,
+    ) -> Result<ArcLine, AllocError>
         requires in_step { IsInStep ⟦<Seat<B> as Observer>⟧.watch self.now }
+        requires nodes { look_of ⟦<Seat<B> as Observer>⟧.watch self.now ItemSort.Node
+            self.now.nodes.labels.0 ≡ Some (⟦<Seat<B> as Observer>⟧.watch node_labels.now).seen }
+        requires arcs { look_of ⟦<Seat<B> as Observer>⟧.watch self.now ItemSort.Arc
+            self.now.arcs.labels.0 ≡ Some (⟦<Seat<B> as Observer>⟧.watch arc_labels.now).seen }
         requires live { items.IsLive self.now.graph.graph.graph ItemSort.Arc id }
         ensures { let world = plain_of ⟦<Seat<B> as Observer>⟧.watch self.now in
             IfOk result (λ line. line ≡ arc_line world id) }
@@ -82,9 +96,12 @@ impl<B: Observer> World<Seat<B>> {
         let Some(fact) = self.graph.graph().fact(ItemSort::Arc, id) else {
             unreachable!()
         };
-        let name = copy_text(alloc, self.label_of(ItemSort::Arc, id).as_bytes())?;
-        let from = copy_text(alloc, self.label_of(ItemSort::Node, fact.from).as_bytes())?;
-        let to = copy_text(alloc, self.label_of(ItemSort::Node, fact.to).as_bytes())?;
+        let label = self.label_in(arc_labels, ItemSort::Arc, id);
+        let source = self.label_in(node_labels, ItemSort::Node, fact.from);
+        let target = self.label_in(node_labels, ItemSort::Node, fact.to);
+        let name = copy_text(alloc, label.as_bytes())?;
+        let from = copy_text(alloc, source.as_bytes())?;
+        let to = copy_text(alloc, target.as_bytes())?;
         Ok(ArcLine { id, name, from, to })
     }
 }

@@ -1,17 +1,19 @@
 //! Maps come, go, and are written to.
 
-ghost use Rattle.std.specs.Prelude.{◌≡◌, false, OnOk, OnErr};
+ghost use Rattle.std.specs.Prelude.{◌≡◌, false, Some, OnOk, OnErr, map, slice_get};
 ghost use Rattle.desk_seats.specs.Contents.{holding, StillFits};
 ghost use Rattle.observe_core.specs.Untold.{TracksNothing};
 ghost use Rattle.alter_graph.specs.Attaching.{HasNoCounts, detached};
 ghost use Rattle.alter_graph.specs.Chains.{chains_seen};
 ghost use Rattle.alter_graph.specs.State.{state_of, IsInStep};
 ghost use Rattle.plain_digraph.specs.Items.{IsLive};
-ghost use Rattle.plain_world.specs.Tables.{has_entry, without_entry};
+ghost use Rattle.plain_world.specs.Tables.{entry, has_entry, without_entry};
+ghost use Rattle.plain_world.specs.Valid.{NamesDiffer};
 ghost use Rattle.plain_world.specs.World.{attached};
 ghost use Rattle.plain_world.specs.Effects.{with_map, with_maps, new_map, with_map_changed};
 ghost use Rattle.desk_world.specs.Claims.{Plays, role_of};
-ghost use Rattle.desk_world.specs.Plain.{plain_of};
+ghost use Rattle.desk_world.specs.declared.tables.MapRow.{MapRow};
+ghost use Rattle.desk_world.specs.Plain.{plain_of, tables_of};
 ghost use Rattle.desk_world.specs.InStep.{AreInStep};
 ghost use Rattle.desk_world.specs.Values.{HasType, HasItem, kind_for, type_for, put_at};
 ghost use Rattle.desk_world.specs.Values.{held_with};
@@ -128,6 +130,53 @@ impl<B: Observer> World<Seat<B>> {
             unreachable!()
         };
         let key = row.key;
+        self.write_row(sort, map, key, id, value);
+    }
+
+    /// Writes the value of a live item to the map of its type that stands at a place of the table:
+    /// no name is looked up.
+    pub(crate) fn write_at(
+        &mut self,
+        sort: ItemSort,
+        place: usize,
+        name: &Text,
+        id: u32,
+        value: Value,
+    )
+        requires in_step { AreInStep ⟦<Seat<B> as Observer>⟧.watch self.old }
+        requires live { IsLive self.old.graph.graph.graph sort id }
+        requires of_type { HasType (plain_of ⟦<Seat<B> as Observer>⟧.watch self.old) sort name.now
+            (type_for value) }
+        requires named { slice_get (map (λ e. e.name) (tables_of self.old sort).maps.rows) place
+            ≡ Some name.now }
+        requires differ { NamesDiffer (tables_of self.old sort).maps.rows }
+        ensures written { plain_of ⟦<Seat<B> as Observer>⟧.watch self.new
+            ≡ with_map_changed (plain_of ⟦<Seat<B> as Observer>⟧.watch self.old) sort name.now
+            (put_at value id) }
+        ensures in_step { AreInStep ⟦<Seat<B> as Observer>⟧.watch self.new }
+        ensures graph { self.new.graph.graph ≡ self.old.graph.graph }
+        ensures pool { self.new.pool ≡ self.old.pool }
+    {
+        let key = self.tables(sort).maps.value(place).key;
+        self.write_row(sort, name, key, id, value);
+    }
+
+    // Writes the value of a live item to the map of its type whose seat has the key.
+    fn write_row(&mut self, sort: ItemSort, map: &Text, key: SeatKey, id: u32, value: Value)
+        requires in_step { AreInStep ⟦<Seat<B> as Observer>⟧.watch self.old }
+        requires live { IsLive self.old.graph.graph.graph sort id }
+        requires of_type { HasType (plain_of ⟦<Seat<B> as Observer>⟧.watch self.old) sort map.now
+            (type_for value) }
+        requires row { (row : MapRow) × (entry (tables_of self.old sort).maps.rows map.now
+            ≡ Some row) × (row.key ≡ key) }
+        requires differ { NamesDiffer (tables_of self.old sort).maps.rows }
+        ensures written { plain_of ⟦<Seat<B> as Observer>⟧.watch self.new
+            ≡ with_map_changed (plain_of ⟦<Seat<B> as Observer>⟧.watch self.old) sort map.now
+            (put_at value id) }
+        ensures in_step { AreInStep ⟦<Seat<B> as Observer>⟧.watch self.new }
+        ensures graph { self.new.graph.graph ≡ self.old.graph.graph }
+        ensures pool { self.new.pool ≡ self.old.pool }
+    {
         match self.graph.seat_mut(sort, key) {
             None => unreachable!(),
             Some(seat) => write_to(seat, id, value),

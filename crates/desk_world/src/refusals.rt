@@ -50,3 +50,23 @@ pub fn bad_value(alloc: Global, item: &Text, text: &Text) -> StepFault
         Err(_) => StepFault::Memory,
     }
 }
+
+/// The two names are of one node.
+pub fn same_node(alloc: Global, name: &Text) -> StepFault
+    ensures { Is (Some (faults.SameNode name.now)) result }
+{
+    match copy_text(alloc, name.as_bytes()) {
+        Ok(name) => StepFault::Refused(Fault::SameNode(name)),
+        Err(_) => StepFault::Memory,
+    }
+}
+
+/// A guard vetoes.
+pub fn vetoed(alloc: Global, guard: &Text) -> StepFault
+    ensures { Is (Some (faults.Vetoed guard.now)) result }
+{
+    match copy_text(alloc, guard.as_bytes()) {
+        Ok(name) => StepFault::Refused(Fault::Vetoed(name)),
+        Err(_) => StepFault::Memory,
+    }
+}

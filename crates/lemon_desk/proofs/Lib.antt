@@ -1,2 +1,3 @@
 mod Seated
 mod Finals
+mod Told

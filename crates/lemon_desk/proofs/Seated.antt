@@ -34,9 +34,4 @@ pub untold_in_seat : (w : Watched) → IsUntoldGuard w.seen → IsBox (formed bo
 untold_in_seat w untold = record {
   guard = record { form = refl; making = untold.making; kind = untold.guard };
   empty = ap (λ (s : Seen). record s { form = boxed_form }) untold.empty;
-  counts = record {
-    added = untold.counts.added;
-    erased = untold.counts.erased;
-    moved = untold.counts.moved;
-  };
 }

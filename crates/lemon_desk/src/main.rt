@@ -9,6 +9,7 @@ mod edge_tests;
 mod exit_codes;
 mod file_shelf;
 mod out_sink;
+pub mod pool;
 pub mod serve;
 #[cfg(test)]
 mod tests;
@@ -17,6 +18,7 @@ use exit_codes::exit_code;
 use file_shelf::FileShelf;
 use out_sink::OutSink;
 use plain_machine::Status;
+use pool::serve_with_boxes;
 use std::alloc::{AllocError, Global};
 use std::process::ExitCode;
 use std::{env, io};
@@ -32,9 +34,10 @@ fn run(rt: &HostRuntime) -> Status {
     };
     let mut shelf = FileShelf::new(rt);
     let mut report = OutSink::new(io::writer(rt));
-    let pool = Vec::new(rt.alloc());
-    let (status, _) = serve::serve(rt.alloc(), words.as_slice(), &mut shelf, &mut report, pool);
-    status
+    match serve_with_boxes(rt.alloc(), words.as_slice(), &mut shelf, &mut report) {
+        Ok((status, _)) => status,
+        Err(_) => Status::Memory,
+    }
 }
 
 // The words after the program's name. Words that can't be had as text count as none.

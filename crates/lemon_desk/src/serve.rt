@@ -16,6 +16,7 @@ ghost use Rattle.desk_world.specs.Plain.{kinds_of, plain_of};
 ghost use Rattle.script_runs.specs.Handing.{EndsWhole, handed_by};
 ghost use Rattle.lemon_desk.specs.Found.{found_in};
 ghost use Rattle.lemon_desk.specs.Pool.{IsUntoldGuard};
+ghost use Rattle.lemon_desk.specs.Told.{AllTrack};
 
 use crate::boxed::Boxed;
 use crate::desk::{Final, Played, as_final, wrap_boxes};
@@ -29,7 +30,7 @@ use std::alloc::Global;
 /// Runs a script on a graph, and writes its answers to the report.
 ///
 /// The words are those after the program's name: `run`, the name of the graph file and the name of
-/// the script. The pool has the guards that the script may attach; each has to be one that was told
+/// the script. The pool has the guards that the script may attach; each has to be one that tracks
 /// nothing. What went out, the files, the status and the world that is handed back are an outcome
 /// of the plain machine for these words, boxes and files. A fault of the outside comes only where
 /// the count of that file, or of the report, rose in this call. Want of memory may come at any
@@ -41,7 +42,7 @@ pub fn serve<S: Shelf, K: Sink>(
     report: &mut K,
     pool: Vec<Box<dyn Observer>>,
 ) -> (Status, Final)
-    // Each box is a guard that was told nothing.
+    // Each box is a guard that tracks nothing.
     requires { AllOf (λ it. IsUntoldGuard (watch it).seen) pool.items }
 
     // What went out, the files afterwards, the world that is handed back and the status are an
@@ -67,6 +68,10 @@ pub fn serve<S: Shelf, K: Sink>(
         × EndsWhole result.0) }
     ensures in_step { IfSome (found_in result.1)
         (IsInStep ⟦<Seat<Boxed> as Observer>⟧.watch) }
+    // What each guard in it tracks is exactly the live items of its sort, and its law holds of
+    // them.
+    ensures told { IfSome (found_in result.1)
+        (AllTrack ⟦<Seat<Boxed> as Observer>⟧.watch) }
 
     // Usage exactly where the words have no shape and the usage line was written. No file is
     // stored.

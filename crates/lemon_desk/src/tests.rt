@@ -1,15 +1,17 @@
 //! Rows of the program over memory, a file for each subject.
 
+mod alterations;
 mod faults;
 mod graphs;
+mod guards;
 mod limits;
 mod maps;
 mod no_graphs;
+mod own_box;
 mod saves;
 mod scripts;
 
-use crate::desk::Final;
-use crate::serve::serve;
+use crate::pool::serve_with_boxes;
 use edge_io::{MemShelf, MemSink};
 use plain_machine::Status;
 use std::alloc::{AllocError, Global};
@@ -57,6 +59,9 @@ const JOINED_SAVED: &[u8] = b"@nodes\nlabel\t\na\t\nb\t\n@arcs\n\t\tlabel\t\na\t
 
 const CHAIN: &[u8] = b"@nodes\nlabel\nu\nv\nw\n@arcs\nlabel cap\nu v a 5\nv w b 3\n";
 
+const LOOPS: &[u8] =
+    b"@nodes\nlabel\nu\nv\nw\n@arcs\nlabel\nu v p\nv u q\nu u r\nv v s\nv w t\nw v x\n";
+
 fn words_of(alloc: Global, texts: &[&[u8]]) -> Result<Vec<Vec<u8>>, AllocError> {
     let mut words = Vec::new(alloc);
     for text in texts {
@@ -77,14 +82,6 @@ fn shelf_of(alloc: Global, row: &Row<'_>) -> Result<MemShelf, AllocError> {
     Ok(shelf)
 }
 
-// Whether it is a world.
-fn is_world(last: Final) -> bool {
-    match last {
-        Final::Nothing => false,
-        Final::Desk(_) => true,
-    }
-}
-
 // Whether all lines were answered.
 fn is_whole(status: Status) -> bool {
     match status {
@@ -94,24 +91,13 @@ fn is_whole(status: Status) -> bool {
     }
 }
 
-// Runs the program without boxes. Its status, and whether a world is handed back.
-fn run(
-    alloc: Global,
-    words: &[Vec<u8>],
-    shelf: &mut MemShelf,
-    report: &mut MemSink,
-) -> (Status, bool) {
-    let (status, last) = serve(alloc, words, shelf, report, Vec::new(alloc));
-    (status, is_world(last))
-}
-
 fn check_row<R: Abort>(rt: &R, alloc: Global, row: &Row<'_>) -> Result<(), AllocError> {
     let mut shelf = shelf_of(alloc, row)?;
     let words = words_of(alloc, row.words)?;
     let mut report = MemSink::new(alloc);
     report.fail_at(Vec::from_slice(alloc, &[row.bad_put])?);
     let name = row.name;
-    let (status, has_world) = run(alloc, words.as_slice(), &mut shelf, &mut report);
+    let (status, has_world) = serve_with_boxes(alloc, words.as_slice(), &mut shelf, &mut report)?;
     assert_eq!(rt; status, row.status, "{name}");
     assert_eq!(rt; has_world, is_whole(row.status), "{name}");
     assert_eq!(rt; report.taken(), row.report, "{name}");

@@ -16,11 +16,23 @@ use Rattle.plain_world.specs.Steps.{Step}
 abbrev pub is_built : Command → Bool
 is_built (commands.AddNode label) = true
 is_built (commands.AddArc label from to) = true
+is_built (commands.DelNode node) = true
+is_built (commands.DelArc arc) = true
+is_built (commands.Source arc node) = true
+is_built (commands.Target arc node) = true
+is_built (commands.Turn arc) = true
+is_built (commands.Contract u v loops) = true
+is_built (commands.SplitNode node label arc) = true
+is_built (commands.SplitArc arc label new) = true
+is_built commands.Clear = true
 is_built (commands.NodeMap map type) = true
 is_built (commands.ArcMap map type) = true
 is_built (commands.Set sort map item value) = true
 is_built (commands.Get sort map item) = true
 is_built (commands.DropMap sort map) = true
+is_built (commands.Guard guard sort kind limit) = true
+is_built (commands.Unguard guard) = true
+is_built commands.Guards = true
 is_built (commands.Nodes view) = true
 is_built (commands.Arcs view) = true
 is_built (commands.Save file) = true

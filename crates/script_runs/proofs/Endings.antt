@@ -145,6 +145,23 @@ does_save world later (commands.AddNode label) name bytes built does =
     absurd (let e = does.0 in cc)
 does_save world later (commands.AddArc label from to) name bytes built does =
     absurd (let e = does.0 in cc)
+does_save world later (commands.DelNode node) name bytes built does =
+    absurd (let e = does.0 in cc)
+does_save world later (commands.DelArc arc) name bytes built does =
+    absurd (let e = does.0 in cc)
+does_save world later (commands.Source arc node) name bytes built does =
+    absurd (let e = does.0 in cc)
+does_save world later (commands.Target arc node) name bytes built does =
+    absurd (let e = does.0 in cc)
+does_save world later (commands.Turn arc) name bytes built does =
+    absurd (let e = does.0 in cc)
+does_save world later (commands.Contract u v loops) name bytes built does =
+    absurd (let e = does.0 in cc)
+does_save world later (commands.SplitNode node label arc) name bytes built does =
+    absurd (let e = does.0 in cc)
+does_save world later (commands.SplitArc arc label new) name bytes built does =
+    absurd (let e = does.0 in cc)
+does_save world later commands.Clear name bytes built does = absurd (let e = does.0 in cc)
 does_save world later (commands.NodeMap map type) name bytes built does =
     absurd (let e = does.0 in cc)
 does_save world later (commands.ArcMap map type) name bytes built does =
@@ -155,6 +172,11 @@ does_save world later (commands.Get sort map item) name bytes built does =
     absurd (let e = does.0 in cc)
 does_save world later (commands.DropMap sort map) name bytes built does =
     absurd (let e = does.0 in cc)
+does_save world later (commands.Guard guard sort kind limit) name bytes built does =
+    absurd (let e = does.0 in cc)
+does_save world later (commands.Unguard guard) name bytes built does =
+    absurd (let e = does.0 in cc)
+does_save world later commands.Guards name bytes built does = absurd (let e = does.0 in cc)
 does_save world later (commands.Nodes view) name bytes built does = absurd (let e = does.0 in cc)
 does_save world later (commands.Arcs view) name bytes built does = absurd (let e = does.0 in cc)
 does_save world later (commands.Save file) name bytes built does =

@@ -1,6 +1,7 @@
 //! Files above their limits, and a graph that is full.
 
-use super::{EMPTY, RUN, run, words_of};
+use super::{EMPTY, RUN, words_of};
+use crate::pool::serve_with_boxes;
 use edge_io::{MemShelf, MemSink};
 use itoa::Buffer;
 use plain_machine::Status;
@@ -19,7 +20,7 @@ fn run_texts(
     shelf.add_file(Vec::from_slice(alloc, b"s")?, script)?;
     let mut report = MemSink::new(alloc);
     let words = words_of(alloc, RUN)?;
-    let (status, has_world) = run(alloc, words.as_slice(), &mut shelf, &mut report);
+    let (status, has_world) = serve_with_boxes(alloc, words.as_slice(), &mut shelf, &mut report)?;
     Ok((status, has_world, Vec::from_slice(alloc, report.taken())?))
 }
 

@@ -11,6 +11,7 @@ use Rattle.script_runs.proofs.Clauses.{lacking_named, too_long_named, bad_graph_
 use Rattle.script_runs.proofs.Clauses.{complete_named}
 use Rattle.lemon_desk.proofs.Seated.{all_seated, each_seated}
 use Rattle.lemon_desk.proofs.Finals.{there, there_before, holds_of_last, as_outcome}
+use Rattle.lemon_desk.proofs.Told.{found_tracked}
 use Rattle.lemon_desk.proofs.serve.serve.Goals as goal
 
 -- ---- the words have no shape
@@ -149,6 +150,10 @@ returns-clause-handed g c =
 pub returns-clause-in_step : goal.returns-clause-in_step
 returns-clause-in_step g c =
     holds_of_last _ _ _ c.as_final.ensures _ c.run_files-status.ensures.in_step
+
+pub returns-clause-told : goal.returns-clause-told
+returns-clause-told g c =
+    found_tracked _ _ (holds_of_last _ _ _ c.as_final.ensures _ c.run_files-status.ensures.in_step)
 
 pub returns-clause-usage : goal.returns-clause-usage
 returns-clause-usage g c = λ usage. absurd (c.run_files-status.ensures.asked usage)

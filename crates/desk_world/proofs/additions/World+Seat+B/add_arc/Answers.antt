@@ -6,13 +6,12 @@ use Rattle.report_text.specs.declared.replies.Reply.TheVariants.{Quiet}
 use Rattle.list_digraph.specs.Roomy.{Roomy}
 use Rattle.plain_digraph.specs.Digraph.{Digraph}
 use Rattle.plain_digraph.specs.Items.{IsLive}
+use Rattle.plain_digraph.specs.Alterations.{single}
 use Rattle.plain_digraph.specs.PlainSteps.{AddArc}
 use Rattle.plain_digraph.specs.Steps.{new_arc}
-use Rattle.alter_graph.specs.Room.{HasRoomFor}
 use Rattle.index_maps.specs.RefViews.{IsFreeLabel}
 use Rattle.plain_world.specs.declared.answers.Answer.TheVariants.{Answered}
 use Rattle.plain_world.specs.Altering.{item_at}
-use Rattle.plain_machine.specs.Built.{RefusedBy}
 use Rattle.desk_seats.specs.contracts.seat.SeatObserver.TheImpl.{watch-value}
 use Rattle.desk_world.specs.Entries.{labels_at}
 use Rattle.desk_world.specs.Faults.{Answers}
@@ -20,10 +19,12 @@ use Rattle.desk_world.specs.Plain.{plain_of}
 use Rattle.desk_world.proofs.Added.{arc_joins, takes_label}
 use Rattle.desk_world.proofs.Answered.{no_source, no_target, arc_taken, no_arc_room, arc_room}
 use Rattle.desk_world.proofs.Answered.{labelled_then, arc_answered, answered_in_step, still_valid}
-use Rattle.desk_world.proofs.Answered.{one_stamp, few_stamps, same_stamps, no_guards, item_found}
+use Rattle.desk_world.proofs.Answered.{one_stamp, few_stamps, same_stamps, item_found}
+use Rattle.desk_world.proofs.Answered.{arc_asked, arc_met}
+use Rattle.desk_world.proofs.Demanded.{told_then, no_veto}
 use Rattle.desk_world.proofs.Handed.{handed_on}
 use Rattle.desk_world.proofs.Unchanged.{still_in_step, plain_still}
-use Rattle.desk_world.proofs.Unguarded.{only_memory}
+use Rattle.desk_world.proofs.VetoesTold.{refused_after, unvetoed}
 use Rattle.desk_world.proofs.additions.World+Seat+B.add_arc.Goals as goal
 
 pub returns-in_err-source : goal.returns-in_err-source
@@ -149,33 +150,56 @@ add_arc-requires-clause-to g c =
 pub refusal-requires : goal.refusal-requires
 refusal-requires g c =
     let w = (watch-value g.row.B g.B.Observer g.B.Observer-dict g.B.Destruct-dict).it in
-    let world = plain_of w c.args.self.now in
+    let self = c.args.self.now in
     let ready = c.reserve_label.new.self in
+    let new = c.add_arc.new.self in
     let source = c.in_ok-source.source in
     let target = c.in_ok-target.target in
-    let left = one_stamp _ _ c.requires.stamps in
-    only_memory w ready c.reserve_label.ensures.in_step (AddArc source target ∷ [])
-    ready.graph.graph.graph c.in-Err.fault
-    (subst (λ (r : Roomy). HasRoomFor (AddArc source target ∷ []) r.graph)
-    (sym c.reserve_label.ensures.graph)
-    (arc_room world source target c.in_ok-ask_room.ensures left))
-    c.in-Err.ensures.refuses.refused
+    let stays = c.in-Err.ensures.refuses in
+    let room = arc_room (plain_of w self) source target c.in_ok-ask_room.ensures
+    (one_stamp _ _ c.requires.stamps) in
+    record {
+      in_step = still_in_step w ready new c.reserve_label.ensures.in_step stays.same
+          stays.in_step;
+      refused = (
+        AddArc source target ∷ [],
+        refused_after w self ready new (AddArc source target ∷ []) c.in-Err.fault
+            c.reserve_label.ensures.graph room stays,
+      );
+    }
 
 pub returns-in-Err : goal.returns-in-Err
 returns-in-Err g c =
     let w = (watch-value g.row.B g.B.Observer g.B.Observer-dict g.B.Destruct-dict).it in
     let self = c.args.self.now in
+    let world = plain_of w self in
     let ready = c.reserve_label.new.self in
+    let new = c.add_arc.new.self in
+    let later = record ready { graph = new } in
+    let label = c.args.label.now in
+    let from = c.args.from.now in
+    let to = c.args.to.now in
+    let valid = c.requires.in_step.valid.graph_ok in
+    let source = c.in_ok-source.source in
+    let target = c.in_ok-target.target in
     let stays = c.in-Err.ensures.refuses in
-    let seats = still_in_step w ready c.add_arc.new.self c.reserve_label.ensures.in_step stays.same
-    stays.in_step in
-    let same = plain_still w ready c.add_arc.new.self c.reserve_label.ensures.in_step stays.same
-    stays.in_step ∙ c.reserve_label.ensures.same in
-    let later = record ready { graph = c.add_arc.new.self } in
-    let asks = commands.AddArc c.args.label.now c.args.from.now c.args.to.now in
+    let seats = still_in_step w ready new c.reserve_label.ensures.in_step stays.same stays.in_step
+    in
+    let same = plain_still w ready new c.reserve_label.ensures.in_step stays.same stays.in_step
+    ∙ c.reserve_label.ensures.same in
+    let room = arc_room world source target c.in_ok-ask_room.ensures
+    (one_stamp _ _ c.requires.stamps) in
+    let told = c.refusal.ensures (AddArc source target ∷ [])
+    (refused_after w self ready new (AddArc source target ∷ []) c.in-Err.fault
+    c.reserve_label.ensures.graph room stays) in
+    let all_met = arc_met world label from to c.in_ok-source.ensures.meets
+    c.in_ok-target.ensures.meets c.in_ok-ask_new_label.ensures.meets c.in_ok-ask_room.ensures in
+    let one = item_found world sorts.Node from source valid c.in_ok-source.ensures.found in
+    let two = item_found world sorts.Node to target valid c.in_ok-target.ensures.found in
     record {
-      step = subst (RefusedBy (plain_of w self) asks (plain_of w later)) (sym c.refusal.ensures)
-          same;
+      step = told_then world (plain_of w later) (commands.AddArc label from to)
+          (single (arc_asked world label from to)) (AddArc source target ∷ []) _ same all_met refl
+          (λ i. AddArc (one.1 i) (two.1 i) ∷ []) told;
       in_step = still_valid w self later seats same c.requires.in_step;
       stamps = same_stamps _ _
           (ap (λ (d : Digraph). d.stamps) stays.same.graph
@@ -233,9 +257,14 @@ returns-in-Ok g c =
     c.put_label.ensures.labelled (λ i. AddArc (one.1 i) (two.1 i))
     (c.in-Ok.ensures.arc ∙ ap (λ (r : Roomy). new_arc r.graph) graph)
     (c.in_ok-label.ensures ∙ c.as_bytes.ensures) in
-    let step = arc_answered world (no_guards w self c.requires.in_step.seats.bare) label from to
-    (plain_of w last) c.in_ok-source.ensures.meets c.in_ok-target.ensures.meets
-    c.in_ok-ask_new_label.ensures.meets c.in_ok-ask_room.ensures is in
+    let asked = arc_asked world label from to in
+    let none = no_veto world (plain_of w ready) (AddArc source target ∷ []) (asked ∷ [])
+    c.reserve_label.ensures.same (λ i. AddArc (one.1 i) (two.1 i) ∷ [])
+    (unvetoed w ready c.reserve_label.ensures.in_step (AddArc source target ∷ [])
+    c.in-Ok.ensures.happens.passes) in
+    let step = arc_answered world label from to (plain_of w last)
+    (arc_met world label from to c.in_ok-source.ensures.meets c.in_ok-target.ensures.meets
+    c.in_ok-ask_new_label.ensures.meets c.in_ok-ask_room.ensures) none is in
     record {
       step = step;
       in_step = answered_in_step w last world (commands.AddArc label from to) (Answered Quiet)

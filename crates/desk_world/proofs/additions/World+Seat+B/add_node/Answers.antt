@@ -5,23 +5,23 @@ use Rattle.report_text.specs.declared.faults.StepFault.TheVariants as faults
 use Rattle.report_text.specs.declared.replies.Reply.TheVariants.{Quiet}
 use Rattle.list_digraph.specs.Roomy.{Roomy}
 use Rattle.plain_digraph.specs.Digraph.{Digraph}
+use Rattle.plain_digraph.specs.Alterations.{single}
 use Rattle.plain_digraph.specs.PlainSteps.{AddNode}
 use Rattle.plain_digraph.specs.Steps.{new_node}
-use Rattle.alter_graph.specs.Room.{HasRoomFor}
 use Rattle.index_maps.specs.RefViews.{IsFreeLabel}
 use Rattle.plain_world.specs.declared.answers.Answer.TheVariants.{Answered}
-use Rattle.plain_machine.specs.Built.{RefusedBy}
 use Rattle.desk_seats.specs.contracts.seat.SeatObserver.TheImpl.{watch-value}
 use Rattle.desk_world.specs.Entries.{labels_at}
 use Rattle.desk_world.specs.Faults.{Answers}
 use Rattle.desk_world.specs.Plain.{plain_of}
 use Rattle.desk_world.proofs.Added.{node_joins, takes_label}
-use Rattle.desk_world.proofs.Answered.{node_taken, no_node_room, node_room, no_guards}
+use Rattle.desk_world.proofs.Answered.{node_taken, no_node_room, node_room, node_met}
 use Rattle.desk_world.proofs.Answered.{labelled_then, node_answered, answered_in_step, still_valid}
 use Rattle.desk_world.proofs.Answered.{one_stamp, few_stamps, same_stamps}
+use Rattle.desk_world.proofs.Demanded.{told_then, no_veto}
 use Rattle.desk_world.proofs.Handed.{handed_on}
 use Rattle.desk_world.proofs.Unchanged.{still_in_step, plain_still}
-use Rattle.desk_world.proofs.Unguarded.{only_memory}
+use Rattle.desk_world.proofs.VetoesTold.{refused_after, unvetoed}
 use Rattle.desk_world.proofs.additions.World+Seat+B.add_node.Goals as goal
 
 pub returns-in_err-ask_new_label : goal.returns-in_err-ask_new_label
@@ -93,29 +93,45 @@ add_node-requires g c = record { in_step = c.reserve_label.ensures.in_step.graph
 pub refusal-requires : goal.refusal-requires
 refusal-requires g c =
     let w = (watch-value g.row.B g.B.Observer g.B.Observer-dict g.B.Destruct-dict).it in
-    let world = plain_of w c.args.self.now in
+    let self = c.args.self.now in
     let ready = c.reserve_label.new.self in
-    let left = one_stamp _ _ c.requires.stamps in
-    only_memory w ready c.reserve_label.ensures.in_step (AddNode ∷ []) ready.graph.graph.graph
-    c.in-Err.fault
-    (subst (λ (r : Roomy). HasRoomFor (AddNode ∷ []) r.graph) (sym c.reserve_label.ensures.graph)
-    (node_room world c.in_ok-ask_room.ensures left))
-    c.in-Err.ensures.refuses.refused
+    let new = c.add_node.new.self in
+    let stays = c.in-Err.ensures.refuses in
+    let room = node_room (plain_of w self) c.in_ok-ask_room.ensures
+    (one_stamp _ _ c.requires.stamps) in
+    record {
+      in_step = still_in_step w ready new c.reserve_label.ensures.in_step stays.same
+          stays.in_step;
+      refused = (
+        AddNode ∷ [],
+        refused_after w self ready new (AddNode ∷ []) c.in-Err.fault
+            c.reserve_label.ensures.graph room stays,
+      );
+    }
 
 pub returns-in-Err : goal.returns-in-Err
 returns-in-Err g c =
     let w = (watch-value g.row.B g.B.Observer g.B.Observer-dict g.B.Destruct-dict).it in
     let self = c.args.self.now in
+    let world = plain_of w self in
     let ready = c.reserve_label.new.self in
+    let new = c.add_node.new.self in
+    let later = record ready { graph = new } in
+    let label = c.args.label.now in
     let stays = c.in-Err.ensures.refuses in
-    let seats = still_in_step w ready c.add_node.new.self c.reserve_label.ensures.in_step stays.same
-    stays.in_step in
-    let same = plain_still w ready c.add_node.new.self c.reserve_label.ensures.in_step stays.same
-    stays.in_step ∙ c.reserve_label.ensures.same in
-    let later = record ready { graph = c.add_node.new.self } in
+    let seats = still_in_step w ready new c.reserve_label.ensures.in_step stays.same stays.in_step
+    in
+    let same = plain_still w ready new c.reserve_label.ensures.in_step stays.same stays.in_step
+    ∙ c.reserve_label.ensures.same in
+    let room = node_room world c.in_ok-ask_room.ensures (one_stamp _ _ c.requires.stamps) in
+    let told = c.refusal.ensures (AddNode ∷ [])
+    (refused_after w self ready new (AddNode ∷ []) c.in-Err.fault c.reserve_label.ensures.graph room
+    stays) in
+    let all_met = node_met world label c.in_ok-ask_new_label.ensures.meets
+    c.in_ok-ask_room.ensures in
     record {
-      step = subst (RefusedBy (plain_of w self) (commands.AddNode c.args.label.now)
-          (plain_of w later)) (sym c.refusal.ensures) same;
+      step = told_then world (plain_of w later) (commands.AddNode label) (single AddNode)
+          (AddNode ∷ []) _ same all_met refl refl told;
       in_step = still_valid w self later seats same c.requires.in_step;
       stamps = same_stamps _ _
           (ap (λ (d : Digraph). d.stamps) stays.same.graph
@@ -154,8 +170,12 @@ returns-in-Ok g c =
     joined.plain c.put_label.ensures.labelled refl
     (c.in-Ok.ensures.node ∙ ap (λ (r : Roomy). new_node r.graph) graph)
     (c.in_ok-label.ensures ∙ c.as_bytes.ensures) in
-    let step = node_answered world (no_guards w self c.requires.in_step.seats.bare) label
-    (plain_of w last) c.in_ok-ask_new_label.ensures.meets c.in_ok-ask_room.ensures is in
+    let none = no_veto world (plain_of w ready) (AddNode ∷ []) (AddNode ∷ [])
+    c.reserve_label.ensures.same refl
+    (unvetoed w ready c.reserve_label.ensures.in_step (AddNode ∷ [])
+    c.in-Ok.ensures.happens.passes) in
+    let step = node_answered world label (plain_of w last)
+    (node_met world label c.in_ok-ask_new_label.ensures.meets c.in_ok-ask_room.ensures) none is in
     record {
       step = step;
       in_step = answered_in_step w last world (commands.AddNode label) (Answered Quiet)

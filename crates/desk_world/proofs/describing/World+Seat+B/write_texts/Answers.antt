@@ -5,7 +5,8 @@ use Rattle.desk_seats.specs.contracts.seat.SeatObserver.TheImpl.{watch-value}
 use Rattle.desk_world.specs.Plain.{plain_of}
 use Rattle.desk_world.proofs.Halfway.{Halfway, none_taken, one_taken, all_taken, none_left}
 use Rattle.desk_world.proofs.RowTold.{HasFirst, none_written, row_below, may_write_next}
-use Rattle.desk_world.proofs.RowTold.{next_written}
+use Rattle.desk_world.proofs.MapsFound.{rows_named}
+use Rattle.desk_world.proofs.RowTold.{next_written, row_named, names_differ}
 use Rattle.desk_world.proofs.describing.World+Seat+B.write_texts.Goals as goal
 
 pub loop-text-init : goal.loop-text-init
@@ -45,8 +46,8 @@ bounds-columns-place g c =
     c.loop-text.invariant.written)
     c.requires.wide
 
-pub write_value-requires : goal.write_value-requires
-write_value-requires g c =
+pub write_at-requires : goal.write_at-requires
+write_at-requires g c =
     let w = (watch-value g.row.B g.B.Observer g.B.Observer-dict g.B.Destruct-dict).it in
     let old = plain_of w c.args.self.now in
     let sort = c.args.sort in
@@ -60,12 +61,17 @@ write_value-requires g c =
     c.loop-text.invariant.written in
     let below = row_below old sort id columns has c.args.texts c.in-Some.text
     c.next.new.self.rest.items now place was c.requires.wide in
+    let names = rows_named w c.loop-text.self c.loop-text.invariant.in_step sort in
     record {
       in_step = c.loop-text.invariant.in_step;
       live = subst (λ d. IsLive d.graph sort id) (sym c.loop-text.invariant.graph)
           c.requires.live;
       of_type = may_write_next old sort id columns has place c.index-columns-place.result below
           c.index-columns-place.is now was.done was.holds;
+      named = row_named old sort id columns has place c.index-columns-place.result below
+          c.index-columns-place.is now was.done was.holds _ names;
+      differ = names_differ old sort id columns has place c.index-columns-place.result below
+          c.index-columns-place.is now was.done was.holds _ names;
     }
 
 pub loop-text-preserved : goal.loop-text-preserved
@@ -76,7 +82,7 @@ loop-text-preserved g c =
     let columns = c.args.columns.now in
     let has = c.requires.columns in
     let now = plain_of w c.loop-text.self in
-    let later = plain_of w c.write_value.new.self in
+    let later = plain_of w c.write_at.new.self in
     let place = c.loop-text.place in
     let id = c.args.id in
     let left = c.next.new.self.rest.items in
@@ -88,14 +94,14 @@ loop-text-preserved g c =
     record {
       can_next = tt;
       finite = tt;
-      in_step = c.write_value.ensures.in_step;
+      in_step = c.write_at.ensures.in_step;
       written = one_taken c.args.texts c.in-Some.text left first
           (HasFirst old sort id columns has later (place + 1)) was
           (λ done whole holds. next_written old sort id columns has place
           c.index-columns-place.result below c.index-columns-place.is now done holds later
-          c.in-Some.text c.write_value.ensures.written);
-      graph = c.write_value.ensures.graph ∙ c.loop-text.invariant.graph;
-      pool = c.write_value.ensures.pool ∙ c.loop-text.invariant.pool;
+          c.in-Some.text c.write_at.ensures.written);
+      graph = c.write_at.ensures.graph ∙ c.loop-text.invariant.graph;
+      pool = c.write_at.ensures.pool ∙ c.loop-text.invariant.pool;
     }
 
 pub returns : goal.returns

@@ -8,7 +8,7 @@ use Rattle.desk_seats.specs.Contents.{labels_in}
 use Rattle.desk_seats.specs.contracts.seat.SeatObserver.TheImpl.{watch-value}
 use Rattle.desk_world.proofs.Adding.{has_item}
 use Rattle.desk_world.proofs.Labelled.{labels_found, labels_there, entries_here}
-use Rattle.desk_world.proofs.LabelsWritten.{gives_label, room_there}
+use Rattle.desk_world.proofs.LabelsWritten.{gives_label, others_room, room_there}
 use Rattle.desk_world.proofs.labels.World+Seat+B.put_label.Goals as goal
 
 pub unreachable-requires : goal.unreachable-requires
@@ -79,4 +79,11 @@ returns g c =
     c.tables.ensures found may c.args.id c.args.label c.put_label.ensures.seen
     c.put_label.ensures.fits
     (has_item (with_label c.args.id None) (labels_in (w old).seen) live) in
-    record { labelled = done.plain; in_step = done.in_step; graph = refl; pool = refl }
+    record {
+      labelled = done.plain;
+      in_step = done.in_step;
+      graph = refl;
+      others = others_room w self c.args.sort items old c.put_label.new.self c.requires.in_step
+          c.tables.ensures found may;
+      pool = refl;
+    }

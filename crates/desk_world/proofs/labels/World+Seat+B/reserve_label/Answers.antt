@@ -6,7 +6,7 @@ use Rattle.alter_graph.specs.Lending.{MayWrite}
 use Rattle.index_maps.specs.RefViews.{IsFreeLabel}
 use Rattle.desk_seats.specs.contracts.seat.SeatObserver.TheImpl.{watch-value}
 use Rattle.desk_world.proofs.Labelled.{labels_found, labels_there, entries_here}
-use Rattle.desk_world.proofs.LabelsWritten.{readies}
+use Rattle.desk_world.proofs.LabelsWritten.{others_room, readies}
 use Rattle.desk_world.proofs.labels.World+Seat+B.reserve_label.Goals as goal
 
 pub unreachable-requires : goal.unreachable-requires
@@ -56,6 +56,8 @@ returns g c =
       graph = refl;
       room = subst (λ n. OnOk c.reserve_label.result (1 ≤ n)) (sym done.room)
           c.reserve_label.ensures.ok;
+      others = others_room w self c.args.sort items c.in-Some.seat.now c.reserve_label.new.self
+          c.requires.in_step c.tables.ensures found may;
       in_step = done.in_step;
       pool = refl;
     }

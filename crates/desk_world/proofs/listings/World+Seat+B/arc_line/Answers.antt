@@ -16,16 +16,16 @@ unreachable-requires g c =
     told_there graph c.args.id c.requires.in_step.seats.graph.valid c.requires.live
     (sym asked ∙ c.in_default.is)
 
-pub label_of-requires-2-clause-live : goal.label_of-requires-2-clause-live
-label_of-requires-2-clause-live g c =
+pub label_in-source-requires-clause-live : goal.label_in-source-requires-clause-live
+label_in-source-requires-clause-live g c =
     let graph = c.args.self.now.graph.graph.graph in
     let told : fact_of graph Arc c.args.id ≡ Some c.in-Some.fact =
     sym (c.fact.ensures ∙ ap (λ (r : Roomy). fact_of r.graph Arc c.args.id) c.graph.ensures)
     ∙ c.in-Some.is in
     (ends_live graph c.args.id c.in-Some.fact told c.requires.in_step.seats.graph.valid).0
 
-pub label_of-requires-3-clause-live : goal.label_of-requires-3-clause-live
-label_of-requires-3-clause-live g c =
+pub label_in-target-requires-clause-live : goal.label_in-target-requires-clause-live
+label_in-target-requires-clause-live g c =
     let graph = c.args.self.now.graph.graph.graph in
     let told : fact_of graph Arc c.args.id ≡ Some c.in-Some.fact =
     sym (c.fact.ensures ∙ ap (λ (r : Roomy). fact_of r.graph Arc c.args.id) c.graph.ensures)
@@ -41,9 +41,9 @@ returns g c =
     let told : fact_of graph Arc id ≡ Some c.in-Some.fact =
     sym (c.fact.ensures ∙ ap (λ (r : Roomy). fact_of r.graph Arc id) c.graph.ensures)
     ∙ c.in-Some.is in
-    let name = c.in_ok-name.ensures ∙ c.as_bytes.ensures ∙ c.label_of.ensures in
-    let from = c.in_ok-from.ensures ∙ c.as_bytes-2.ensures ∙ c.label_of-2.ensures
+    let name = c.in_ok-name.ensures ∙ c.as_bytes.ensures ∙ c.label_in-label.ensures in
+    let from = c.in_ok-from.ensures ∙ c.as_bytes-2.ensures ∙ c.label_in-source.ensures
     ∙ ap (label_of world Node) (source_told graph id c.in-Some.fact told) in
-    let to = c.in_ok-to.ensures ∙ c.as_bytes-3.ensures ∙ c.label_of-3.ensures
+    let to = c.in_ok-to.ensures ∙ c.as_bytes-3.ensures ∙ c.label_in-target.ensures
     ∙ ap (label_of world Node) (target_told graph id c.in-Some.fact told) in
     (λ i. record { id = id; name = name i; from = from i; to = to i })

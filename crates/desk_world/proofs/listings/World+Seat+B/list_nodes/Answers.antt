@@ -7,8 +7,8 @@ use Rattle.desk_world.specs.Plain.{plain_of}
 use Rattle.desk_world.proofs.Ordered.{live_at}
 use Rattle.desk_world.proofs.listings.World+Seat+B.list_nodes.Goals as goal
 
-pub label_of-requires-clause-live : goal.label_of-requires-clause-live
-label_of-requires-clause-live g c =
+pub label_in-label-requires-clause-live : goal.label_in-label-requires-clause-live
+label_in-label-requires-clause-live g c =
     let w = (watch-value g.row.B g.B.Observer g.B.Observer-dict g.B.Destruct-dict).it in
     live_at (plain_of w c.args.self.now) Node c.requires.seats.graph.valid
     c.as_slice-id-items.result.now (c.as_slice-id-items.ensures.value ∙ c.in_ok-nodes.ensures

@@ -43,6 +43,141 @@ returns-in-AddArc g c =
       stamps = c.add_arc.ensures.stamps;
     }
 
+pub returns-in-DelNode : goal.returns-in-DelNode
+returns-in-DelNode g c =
+    let w = (watch-value g.row.B g.B.Observer g.B.Observer-dict g.B.Destruct-dict).it in
+    let old = plain_of w c.args.self.now in
+    let new = plain_of w c.del_node.new.self in
+    let asked = commands.DelNode c.in-DelNode.node in
+    record {
+      answered = answered_by old new c.args.command.now asked c.in-DelNode.is c.del_node.result
+          c.del_node.ensures.step;
+      refused = refused_by old new c.args.command.now asked c.in-DelNode.is c.del_node.result
+          c.del_node.ensures.step;
+      in_step = c.del_node.ensures.in_step;
+      stamps = c.del_node.ensures.stamps;
+    }
+
+pub returns-in-DelArc : goal.returns-in-DelArc
+returns-in-DelArc g c =
+    let w = (watch-value g.row.B g.B.Observer g.B.Observer-dict g.B.Destruct-dict).it in
+    let old = plain_of w c.args.self.now in
+    let new = plain_of w c.del_arc.new.self in
+    let asked = commands.DelArc c.in-DelArc.arc in
+    record {
+      answered = answered_by old new c.args.command.now asked c.in-DelArc.is c.del_arc.result
+          c.del_arc.ensures.step;
+      refused = refused_by old new c.args.command.now asked c.in-DelArc.is c.del_arc.result
+          c.del_arc.ensures.step;
+      in_step = c.del_arc.ensures.in_step;
+      stamps = c.del_arc.ensures.stamps;
+    }
+
+pub returns-in-Source : goal.returns-in-Source
+returns-in-Source g c =
+    let w = (watch-value g.row.B g.B.Observer g.B.Observer-dict g.B.Destruct-dict).it in
+    let old = plain_of w c.args.self.now in
+    let new = plain_of w c.source.new.self in
+    let asked = commands.Source c.in-Source.arc c.in-Source.node in
+    record {
+      answered = answered_by old new c.args.command.now asked c.in-Source.is c.source.result
+          c.source.ensures.step;
+      refused = refused_by old new c.args.command.now asked c.in-Source.is c.source.result
+          c.source.ensures.step;
+      in_step = c.source.ensures.in_step;
+      stamps = c.source.ensures.stamps;
+    }
+
+pub returns-in-Target : goal.returns-in-Target
+returns-in-Target g c =
+    let w = (watch-value g.row.B g.B.Observer g.B.Observer-dict g.B.Destruct-dict).it in
+    let old = plain_of w c.args.self.now in
+    let new = plain_of w c.target.new.self in
+    let asked = commands.Target c.in-Target.arc c.in-Target.node in
+    record {
+      answered = answered_by old new c.args.command.now asked c.in-Target.is c.target.result
+          c.target.ensures.step;
+      refused = refused_by old new c.args.command.now asked c.in-Target.is c.target.result
+          c.target.ensures.step;
+      in_step = c.target.ensures.in_step;
+      stamps = c.target.ensures.stamps;
+    }
+
+pub returns-in-Turn : goal.returns-in-Turn
+returns-in-Turn g c =
+    let w = (watch-value g.row.B g.B.Observer g.B.Observer-dict g.B.Destruct-dict).it in
+    let old = plain_of w c.args.self.now in
+    let new = plain_of w c.turn.new.self in
+    let asked = commands.Turn c.in-Turn.arc in
+    record {
+      answered = answered_by old new c.args.command.now asked c.in-Turn.is c.turn.result
+          c.turn.ensures.step;
+      refused = refused_by old new c.args.command.now asked c.in-Turn.is c.turn.result
+          c.turn.ensures.step;
+      in_step = c.turn.ensures.in_step;
+      stamps = c.turn.ensures.stamps;
+    }
+
+pub returns-in-Contract : goal.returns-in-Contract
+returns-in-Contract g c =
+    let w = (watch-value g.row.B g.B.Observer g.B.Observer-dict g.B.Destruct-dict).it in
+    let old = plain_of w c.args.self.now in
+    let new = plain_of w c.contract.new.self in
+    let asked = commands.Contract c.in-Contract.u c.in-Contract.v c.in-Contract.loops in
+    record {
+      answered = answered_by old new c.args.command.now asked c.in-Contract.is c.contract.result
+          c.contract.ensures.step;
+      refused = refused_by old new c.args.command.now asked c.in-Contract.is c.contract.result
+          c.contract.ensures.step;
+      in_step = c.contract.ensures.in_step;
+      stamps = c.contract.ensures.stamps;
+    }
+
+pub returns-in-SplitNode : goal.returns-in-SplitNode
+returns-in-SplitNode g c =
+    let w = (watch-value g.row.B g.B.Observer g.B.Observer-dict g.B.Destruct-dict).it in
+    let old = plain_of w c.args.self.now in
+    let new = plain_of w c.split_node.new.self in
+    let asked = commands.SplitNode c.in-SplitNode.node c.in-SplitNode.label c.in-SplitNode.arc in
+    record {
+      answered = answered_by old new c.args.command.now asked c.in-SplitNode.is c.split_node.result
+          c.split_node.ensures.step;
+      refused = refused_by old new c.args.command.now asked c.in-SplitNode.is c.split_node.result
+          c.split_node.ensures.step;
+      in_step = c.split_node.ensures.in_step;
+      stamps = c.split_node.ensures.stamps;
+    }
+
+pub returns-in-SplitArc : goal.returns-in-SplitArc
+returns-in-SplitArc g c =
+    let w = (watch-value g.row.B g.B.Observer g.B.Observer-dict g.B.Destruct-dict).it in
+    let old = plain_of w c.args.self.now in
+    let new = plain_of w c.split_arc.new.self in
+    let asked = commands.SplitArc c.in-SplitArc.arc c.in-SplitArc.label c.in-SplitArc.new in
+    record {
+      answered = answered_by old new c.args.command.now asked c.in-SplitArc.is c.split_arc.result
+          c.split_arc.ensures.step;
+      refused = refused_by old new c.args.command.now asked c.in-SplitArc.is c.split_arc.result
+          c.split_arc.ensures.step;
+      in_step = c.split_arc.ensures.in_step;
+      stamps = c.split_arc.ensures.stamps;
+    }
+
+pub returns-in-Clear : goal.returns-in-Clear
+returns-in-Clear g c =
+    let w = (watch-value g.row.B g.B.Observer g.B.Observer-dict g.B.Destruct-dict).it in
+    let old = plain_of w c.args.self.now in
+    let new = plain_of w c.clear.new.self in
+    let asked = commands.Clear in
+    record {
+      answered = answered_by old new c.args.command.now asked c.in-Clear.is c.clear.result
+          c.clear.ensures.step;
+      refused = refused_by old new c.args.command.now asked c.in-Clear.is c.clear.result
+          c.clear.ensures.step;
+      in_step = c.clear.ensures.in_step;
+      stamps = c.clear.ensures.stamps;
+    }
+
 pub returns-in-NodeMap : goal.returns-in-NodeMap
 returns-in-NodeMap g c =
     let w = (watch-value g.row.B g.B.Observer g.B.Observer-dict g.B.Destruct-dict).it in
@@ -116,6 +251,54 @@ returns-in-DropMap g c =
           c.drop_map.ensures.step;
       in_step = c.drop_map.ensures.in_step;
       stamps = c.drop_map.ensures.stamps;
+    }
+
+pub guard-requires-clause-valid : goal.guard-requires-clause-valid
+guard-requires-clause-valid g c = subst IsValid c.in-Guard.is c.requires.valid
+
+pub returns-in-Guard : goal.returns-in-Guard
+returns-in-Guard g c =
+    let w = (watch-value g.row.B g.B.Observer g.B.Observer-dict g.B.Destruct-dict).it in
+    let old = plain_of w c.args.self.now in
+    let new = plain_of w c.guard.new.self in
+    let asked = commands.Guard c.in-Guard.name c.in-Guard.sort c.in-Guard.kind c.in-Guard.limit in
+    record {
+      answered = answered_by old new c.args.command.now asked c.in-Guard.is c.guard.result
+          c.guard.ensures.step;
+      refused = refused_by old new c.args.command.now asked c.in-Guard.is c.guard.result
+          c.guard.ensures.step;
+      in_step = c.guard.ensures.in_step;
+      stamps = c.guard.ensures.stamps;
+    }
+
+pub returns-in-Unguard : goal.returns-in-Unguard
+returns-in-Unguard g c =
+    let w = (watch-value g.row.B g.B.Observer g.B.Observer-dict g.B.Destruct-dict).it in
+    let old = plain_of w c.args.self.now in
+    let new = plain_of w c.unguard.new.self in
+    let asked = commands.Unguard c.in-Unguard.name in
+    record {
+      answered = answered_by old new c.args.command.now asked c.in-Unguard.is c.unguard.result
+          c.unguard.ensures.step;
+      refused = refused_by old new c.args.command.now asked c.in-Unguard.is c.unguard.result
+          c.unguard.ensures.step;
+      in_step = c.unguard.ensures.in_step;
+      stamps = c.unguard.ensures.stamps;
+    }
+
+pub returns-in-Guards : goal.returns-in-Guards
+returns-in-Guards g c =
+    let w = (watch-value g.row.B g.B.Observer g.B.Observer-dict g.B.Destruct-dict).it in
+    let old = plain_of w c.args.self.now in
+    let new = plain_of w c.args.self.now in
+    let asked = commands.Guards in
+    record {
+      answered = answered_by old new c.args.command.now asked c.in-Guards.is c.list_guards.result
+          c.list_guards.ensures;
+      refused = refused_by old new c.args.command.now asked c.in-Guards.is c.list_guards.result
+          c.list_guards.ensures;
+      in_step = c.requires.in_step;
+      stamps = same_stamps _ _ refl;
     }
 
 pub returns-in-Nodes : goal.returns-in-Nodes

@@ -1,0 +1,141 @@
+-- A world with other guards, another pool and other seats.
+use Rattle.std.proofs.Common.{◌≡◌, List, ◌∷◌, ◌++◌, map, refl, sym, ap, ◌∙◌, subst}
+use Rattle.std.proofs.Common.{true}
+use Rattle.std.specs.List.{flat_map}
+use Rattle.std.proofs.lemmas.List.{append_assoc, map-append}
+use Rattle.base_items.specs.declared.items.ItemSort.TheVariants as sorts
+use Rattle.script_words.specs.declared.commands.GuardWord.{GuardWord}
+use Rattle.plain_digraph.specs.Digraph.{Digraph}
+use Rattle.plain_digraph.specs.Lists.{AllOf}
+use Rattle.observe_core.specs.Seen.{Watched}
+use Rattle.alter_graph.specs.Chains.{chains_seen}
+use Rattle.alter_graph.specs.State as graph
+use Rattle.alter_graph.specs.State.{AlterOf, state_of}
+use Rattle.plain_world.specs.Tables.{Named}
+use Rattle.desk_names.specs.Rows.{Rows}
+use Rattle.desk_world.specs.declared.tables.GuardRow.{GuardRow}
+use Rattle.desk_world.specs.declared.world.World.{World}
+use Rattle.desk_world.specs.Claims.{Claim, claims_of, own_claims, map_claim, guard_claim}
+use Rattle.desk_world.specs.Claims.{snap_claims, has_map_kind}
+use Rattle.desk_world.specs.InStep.{AreInStep, AreSeated, AreBoxes, IsBare}
+use Rattle.desk_world.specs.Looks.{Look, looked}
+use Rattle.desk_world.specs.Plain.{world_seen, labels_seen, ties_seen, guard_seen, snapshot_seen}
+use Rattle.desk_world.proofs.Relabelled.{Agrees, rows_agree, attributes_agree}
+use Rattle.desk_world.proofs.Seated.{all_left, all_right}
+
+module _ {O : Type 0} (w : World O) where
+  -- ---- its claims
+
+  abbrev node_maps : List Claim
+  node_maps = map (map_claim sorts.Node) w.nodes.maps.rows
+
+  abbrev arc_maps : List Claim
+  arc_maps = map (map_claim sorts.Arc) w.arcs.maps.rows
+
+  -- those of the maps, and all that stand before the guards
+  abbrev pub maps_claimed : List Claim
+  maps_claimed = node_maps ++ arc_maps
+
+  abbrev pub ahead : List Claim
+  ahead = own_claims sorts.Node w.nodes ++ (own_claims sorts.Arc w.arcs ++ maps_claimed)
+
+  abbrev pub after : List Claim
+  after = flat_map snap_claims w.snapshots.rows
+
+  -- the claims, the guards being these
+  abbrev pub claims_with : List (Named GuardRow) → List Claim
+  claims_with rows = ahead ++ (map guard_claim rows ++ after)
+
+  -- the same put together in other ways
+  pub claims_are : claims_of w ≡ claims_with w.guards.rows
+  claims_are =
+      ap (λ list. own_claims sorts.Node w.nodes ++ (own_claims sorts.Arc w.arcs ++ list))
+      (sym (append_assoc node_maps arc_maps (map guard_claim w.guards.rows ++ after)))
+
+  -- a guard in the midst of others
+  pub claims_midst : (front : List (Named GuardRow)) (e : Named GuardRow)
+      (back : List (Named GuardRow)) → claims_with (front ++ e ∷ back)
+      ≡ (ahead ++ map guard_claim front) ++ guard_claim e ∷ (map guard_claim back ++ after)
+  claims_midst front e back =
+      ap (λ list. ahead ++ (list ++ after)) (map-append guard_claim front (e ∷ back))
+      ∙ ap (λ list. ahead ++ list)
+      (append_assoc (map guard_claim front) (map guard_claim (e ∷ back)) after)
+      ∙ sym (append_assoc ahead (map guard_claim front) (map guard_claim (e ∷ back) ++ after))
+
+  pub claims_apart : (front back : List (Named GuardRow)) → claims_with (front ++ back)
+      ≡ (ahead ++ map guard_claim front) ++ (map guard_claim back ++ after)
+  claims_apart front back =
+      ap (λ list. ahead ++ (list ++ after)) (map-append guard_claim front back)
+      ∙ ap (λ list. ahead ++ list)
+      (append_assoc (map guard_claim front) (map guard_claim back) after)
+      ∙ sym (append_assoc ahead (map guard_claim front) (map guard_claim back ++ after))
+
+  -- no snapshot claims a seat that could be one of a guard
+  pub after_maps : IsBare w → AllOf (λ (x : Claim). has_map_kind x.role ≡ true) after
+  after_maps bare =
+      subst (λ rows. AllOf (λ (x : Claim). has_map_kind x.role ≡ true)
+      (flat_map snap_claims rows)) (sym bare.snapshots) tt
+
+  -- ---- the world with other guards
+
+  module _ (rows : Rows GuardRow) (boxes : World O) (a : AlterOf O) where
+    -- the pool is that of another world
+    abbrev pub with_guards : World O
+    with_guards = record w { graph = a; guards = rows; pool = boxes.pool }
+
+    pub claims_now : claims_of with_guards ≡ claims_with rows.rows
+    claims_now =
+        ap (λ list. own_claims sorts.Node w.nodes ++ (own_claims sorts.Arc w.arcs ++ list))
+        (sym (append_assoc node_maps arc_maps (map guard_claim rows.rows ++ after)))
+
+  -- where the same is seen of all other claims, the guards and the pool alone are others
+  pub guards_seen : (bare : IsBare w) (g : Digraph) (look later : Look)
+      (pool kinds : List GuardWord) (rows : Rows GuardRow) (boxes : World O) (a : AlterOf O)
+      → AllOf (Agrees look later) ahead
+      → world_seen g later kinds (with_guards rows boxes a)
+      ≡ record (world_seen g look pool w) {
+        guards = looked (guard_seen later) rows.rows;
+        pool = kinds;
+      }
+  guards_seen bare g look later pool kinds rows boxes a all =
+      let node_labels = ap labels_seen all.0 in
+      let arc_labels = ap labels_seen all.1.1.0 in
+      let nodes = rows_agree look later sorts.Node w.nodes.maps.rows
+      (all_left (Agrees look later) node_maps arc_maps all.1.1.1.1) in
+      let arcs = rows_agree look later sorts.Arc w.arcs.maps.rows
+      (all_right (Agrees look later) node_maps arc_maps all.1.1.1.1) in
+      let snapshots : looked (snapshot_seen g later) w.snapshots.rows
+      ≡ looked (snapshot_seen g look) w.snapshots.rows =
+      subst (λ table. looked (snapshot_seen g later) table ≡ looked (snapshot_seen g look) table)
+      (sym bare.snapshots) refl in
+      let attributes = attributes_agree look later (ties_seen look w)
+      (ties_seen later (with_guards rows boxes a)) w.attributes.rows bare.attributes in
+      λ i. record (world_seen g look pool w) {
+        nodes = record { labels = node_labels i; maps = nodes i };
+        arcs = record { labels = arc_labels i; maps = arcs i };
+        guards = looked (guard_seen later) rows.rows;
+        pool = kinds;
+        snapshots = snapshots i;
+        attributes = attributes i;
+      }
+
+-- ---- it is in step
+
+module _ {O : Type 0} (watch : O → Watched) (w : World O) (rows : Rows GuardRow) (boxes : World O)
+    (a : AlterOf O) (in_step : AreInStep watch w) (then : graph.IsInStep (state_of watch a))
+    (told_nothing : AreBoxes watch boxes.pool.items) where
+  pub guards_in_step : AreSeated (claims_with w rows.rows) (chains_seen watch a.chains)
+      → AreInStep watch (with_guards w rows boxes a)
+  guards_in_step seated = record {
+    graph = then;
+    seated = subst (λ list. AreSeated list (chains_seen watch a.chains))
+        (sym (claims_now w rows boxes a)) seated;
+    boxes = told_nothing;
+    bare = record {
+      snapshots = in_step.bare.snapshots;
+      views = in_step.bare.views;
+      node_maps = in_step.bare.node_maps;
+      arc_maps = in_step.bare.arc_maps;
+      attributes = in_step.bare.attributes;
+    };
+  }
