@@ -1,3 +1,4 @@
 mod Seated
 mod Finals
 mod Told
+mod Boxes
