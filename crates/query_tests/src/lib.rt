@@ -5,6 +5,8 @@
 #[cfg(test)]
 mod builds;
 #[cfg(test)]
+mod flows;
+#[cfg(test)]
 mod paths;
 mod tasks;
 

@@ -1,0 +1,296 @@
+//! Cheapest flows by the network simplex method, against answers worked out by hand.
+
+ghost use Rattle.std.specs.Prelude.{◌≡◌, ℕ, ◌<◌, true, All};
+ghost use Rattle.std.specs.Option.{option_copied};
+ghost use Rattle.plain_certificates.specs.Feasible.{IsAtMost};
+ghost use Rattle.net_simplex.specs.Answers.{AreGiven, IsValue, given, upper_given};
+
+use crate::tasks::{are_within, digraph};
+use net_simplex::simplex;
+use static_digraph::CostAnswer;
+use std::alloc::{AllocError, Global};
+use std::fmt::Write;
+use std::process::Abort;
+use std::test::Fail;
+
+// A digraph of nodes and of arcs, with the bounds and the cost of each arc and the supply of each
+// node, and what is found: the flow and its cost, or the sides and numbers of a barrier, or the
+// arcs and the cost of a cycle.
+struct Row {
+    nodes: &'static [u32],
+    arcs: &'static [(u32, u32)],
+    lower: Option<&'static [i64]>,
+    upper: Option<&'static [i64]>,
+    cost: &'static [i64],
+    supply: Option<&'static [i64]>,
+    found: &'static str,
+}
+
+// Tasks with one cheapest flow each: a detour that is cheaper as far as it goes; no arc; a loop
+// that pays; arcs side by side; equal bounds; an arc without an upper bound at its lower one; and a
+// lower bound below 0 that is reached.
+const FLOWS: [Row; 7] = [
+    Row {
+        nodes: &[0, 1, 2],
+        arcs: &[(0, 1), (1, 2), (0, 2)],
+        lower: None,
+        upper: Some(&[5, 3, 5]),
+        cost: &[1, 1, 3],
+        supply: Some(&[4, 0, -4]),
+        found: "flow 3 3 1; cost 9",
+    },
+    Row {
+        nodes: &[0, 1],
+        arcs: &[],
+        lower: None,
+        upper: None,
+        cost: &[],
+        supply: None,
+        found: "flow; cost 0",
+    },
+    Row {
+        nodes: &[0],
+        arcs: &[(0, 0)],
+        lower: None,
+        upper: Some(&[5]),
+        cost: &[-2],
+        supply: None,
+        found: "flow 5; cost -10",
+    },
+    Row {
+        nodes: &[0, 1],
+        arcs: &[(0, 1), (0, 1)],
+        lower: None,
+        upper: Some(&[2, 2]),
+        cost: &[3, 1],
+        supply: Some(&[3, -3]),
+        found: "flow 1 2; cost 5",
+    },
+    Row {
+        nodes: &[0, 1],
+        arcs: &[(0, 1)],
+        lower: Some(&[2]),
+        upper: Some(&[2]),
+        cost: &[5],
+        supply: Some(&[2, -2]),
+        found: "flow 2; cost 10",
+    },
+    Row {
+        nodes: &[0, 1],
+        arcs: &[(0, 1)],
+        lower: Some(&[2]),
+        upper: None,
+        cost: &[1],
+        supply: Some(&[2, -2]),
+        found: "flow 2; cost 2",
+    },
+    Row {
+        nodes: &[0, 1],
+        arcs: &[(0, 1), (0, 1)],
+        lower: Some(&[-2, 0]),
+        upper: Some(&[3, 2]),
+        cost: &[1, 0],
+        supply: None,
+        found: "flow -2 2; cost -2",
+    },
+];
+
+// Supplies that don't add up, with one barrier each: all nodes together supply too much, or too
+// little.
+const BARRIERS: [Row; 2] = [
+    Row {
+        nodes: &[0, 1],
+        arcs: &[(0, 1)],
+        lower: None,
+        upper: Some(&[9]),
+        cost: &[1],
+        supply: Some(&[3, -1]),
+        found: "over 1 1; 2 above 0",
+    },
+    Row {
+        nodes: &[0, 1],
+        arcs: &[(0, 1)],
+        lower: None,
+        upper: Some(&[9]),
+        cost: &[1],
+        supply: Some(&[1, -3]),
+        found: "under 1 1; -2 below 0",
+    },
+];
+
+// Cycles without bounds that cost less than nothing, each the only one, from the least arc on.
+const CYCLES: [Row; 2] = [
+    Row {
+        nodes: &[0, 1],
+        arcs: &[(0, 1), (1, 0)],
+        lower: None,
+        upper: None,
+        cost: &[-3, 1],
+        supply: None,
+        found: "cycle 0 1; cost -2",
+    },
+    Row {
+        nodes: &[0, 1, 2],
+        arcs: &[(2, 0), (1, 2), (0, 1)],
+        lower: None,
+        upper: None,
+        cost: &[-1, -1, -1],
+        supply: Some(&[1, 0, -1]),
+        found: "cycle 0 2 1; cost -3",
+    },
+];
+
+// Whether all are values that the libraries take.
+fn are_values(values: &[i64]) -> bool
+    ensures { result ≡ true → All IsValue values.now }
+{
+    are_within(values, -68719476736, 68719476736)
+}
+
+// Whether there are so many values, or none at all.
+fn are_given(values: Option<&[i64]>, count: usize) -> bool
+    ensures { result ≡ true → AreGiven count (option_copied values.entry) }
+{
+    match values {
+        Some(values) => values.len() == count && are_values(values),
+        None => true,
+    }
+}
+
+// The value at a place, and 0 where none are given.
+fn value_at(values: Option<&[i64]>, place: usize) -> i64
+    ensures { result ≡ given (option_copied values.entry) place }
+{
+    match values {
+        Some(values) => {
+            if place < values.len() {
+                values[place]
+            } else {
+                0
+            }
+        }
+        None => 0,
+    }
+}
+
+// Whether each lower bound is at most the upper one.
+fn are_ordered(lower: Option<&[i64]>, upper: Option<&[i64]>, count: usize) -> bool
+    ensures { result ≡ true → (k : ℕ) → k < count
+        → IsAtMost (given (option_copied lower.entry) k)
+        (upper_given (option_copied upper.entry) k) }
+{
+    let Some(upper) = upper else {
+        return true;
+    };
+    if upper.len() != count {
+        return false;
+    }
+    let mut place = 0;
+    'on: while place < upper.len() {
+        if value_at(lower, place) > upper[place] {
+            return false;
+        }
+        place += 1;
+    }
+    true
+}
+
+// The values, each behind a blank.
+fn push_values(text: &mut String, values: &[i64]) -> Result<(), AllocError> {
+    for value in values {
+        write!(text, " {value}")?;
+    }
+    Ok(())
+}
+
+// What was found, as a row has it.
+fn push_answer(text: &mut String, answer: &CostAnswer) -> Result<(), AllocError> {
+    match answer {
+        CostAnswer::Optimal { flow, pi: _, cost } => {
+            text.push_str("flow")?;
+            push_values(text, flow.as_slice())?;
+            write!(text, "; cost {cost}")?;
+        }
+        CostAnswer::Barrier(barrier) => {
+            text.push_str(if barrier.over { "over" } else { "under" })?;
+            for inside in barrier.nodes.as_slice() {
+                text.push_str(if *inside { " 1" } else { " 0" })?;
+            }
+            let way = if barrier.over { "above" } else { "below" };
+            let (supply, limit) = (barrier.supply, barrier.limit);
+            write!(text, "; {supply} {way} {limit}")?;
+        }
+        CostAnswer::FreeCycle {
+            flow: _,
+            cycle,
+            cost,
+        } => {
+            text.push_str("cycle")?;
+            for arc in cycle.as_slice() {
+                write!(text, " {arc}")?;
+            }
+            write!(text, "; cost {cost}")?;
+        }
+    }
+    Ok(())
+}
+
+// What `simplex` finds; None where the row is no task for it.
+fn cheapest(alloc: Global, row: &Row) -> Result<Option<String>, AllocError> {
+    let Some(g) = digraph(alloc, row.nodes, row.arcs) else {
+        return Ok(None);
+    };
+    let nodes = g.node_count() as usize;
+    let arcs = g.arc_count() as usize;
+    if row.cost.len() != arcs || !are_values(row.cost) {
+        return Ok(None);
+    }
+    if !are_given(row.lower, arcs) {
+        return Ok(None);
+    }
+    if !are_given(row.upper, arcs) {
+        return Ok(None);
+    }
+    if !are_given(row.supply, nodes) {
+        return Ok(None);
+    }
+    if !are_ordered(row.lower, row.upper, arcs) {
+        return Ok(None);
+    }
+    let mut text = String::new(alloc);
+    let answer = simplex(alloc, &g, row.lower, row.upper, row.cost, row.supply)?;
+    push_answer(&mut text, &answer)?;
+    Ok(Some(text))
+}
+
+// The text that was found is the row's.
+fn is_found(rt: &impl Abort, row: &Row, found: Option<String>) {
+    let Some(text) = found else {
+        panic!(rt; "no task: {:?} at {:?}", row.arcs, row.cost);
+    };
+    assert_eq!(rt; text.as_str(), row.found);
+}
+
+#[test]
+fn cheapest_flows(rt: HostRuntime) -> Result<(), Fail> {
+    for row in &FLOWS {
+        is_found(&rt, row, cheapest(rt.alloc(), row)?);
+    }
+    Ok(())
+}
+
+#[test]
+fn barriers_where_supplies_do_not_add_up(rt: HostRuntime) -> Result<(), Fail> {
+    for row in &BARRIERS {
+        is_found(&rt, row, cheapest(rt.alloc(), row)?);
+    }
+    Ok(())
+}
+
+#[test]
+fn free_cycles_from_their_least_arc(rt: HostRuntime) -> Result<(), Fail> {
+    for row in &CYCLES {
+        is_found(&rt, row, cheapest(rt.alloc(), row)?);
+    }
+    Ok(())
+}
