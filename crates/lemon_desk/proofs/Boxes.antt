@@ -1,9 +1,13 @@
 -- Boxes that are put into the pool, one after the other.
 use Rattle.std.proofs.Common.{◌≡◌, ℕ, zero, suc, ◌+◌, List, [], ◌∷◌, ◌++◌, map, refl, sym, ap, ◌∙◌}
-use Rattle.std.proofs.Common.{arith}
+use Rattle.std.proofs.Common.{subst, arith}
 use Rattle.std.specs.List.{range_with_len}
 use Rattle.std.proofs.lemmas.List.{map-append}
+use Rattle.edge_io.specs.Files.{Files}
+use Rattle.script_words.specs.declared.commands.GuardWord.{GuardWord}
 use Rattle.plain_digraph.specs.Lists.{AllOf}
+use Rattle.plain_machine.specs.declared.statuses.Status.{Status}
+use Rattle.plain_machine.specs.Outcome.{Left, Outcome}
 use Rattle.observe_core.specs.declared.kinds.Kind.{Kind}
 use Rattle.observe_core.specs.declared.kinds.Kind.TheVariants as kinds
 use Rattle.observe_core.specs.Seen.{Watched}
@@ -52,3 +56,10 @@ module _ {X : Type 0} (watch : X → Watched) where
       map-append (λ o. word_of (watch o).seen.kind) xs (x ∷ [])
       ∙ (λ i. are i ++ one i ∷ [])
       ∙ sym (ap (map kind_at) (one_more n) ∙ map-append kind_at (range_with_len 0 n) (n ∷ []))
+
+-- an outcome of boxes is one of boxes of the same kinds
+pub by_kinds : (words : List (List ℕ)) (kinds all : List GuardWord) (files : Files) (left : Left)
+    (status : Status) → kinds ≡ all → Outcome words kinds files left status
+    → Outcome words all files left status
+by_kinds words kinds all files left status same outcome =
+    subst (λ pool. Outcome words pool files left status) same outcome

@@ -1,10 +1,13 @@
 //! The guards that the program has ready.
 
-ghost use Rattle.std.specs.Prelude.{◌≡◌, ◌≢◌, OnErr, is_some};
+ghost use Rattle.std.specs.Prelude.{◌≡◌, ◌≢◌, ℕ, List, Some, IfOk, OnErr, is_some};
+ghost use Rattle.edge_io.specs.Files.{Files, Took};
 ghost use Rattle.observe_core.specs.declared.kinds.Kind.TheVariants.{Map};
+ghost use Rattle.plain_machine.specs.Words.{contents};
+ghost use Rattle.plain_machine.specs.Outcome.{Counts, Handed, Outcome};
 ghost use Rattle.desk_world.specs.Plain.{word_of};
 ghost use Rattle.lemon_desk.specs.Found.{found_in};
-ghost use Rattle.lemon_desk.specs.Pool.{kind_at};
+ghost use Rattle.lemon_desk.specs.Pool.{all_boxes, kind_at};
 
 use crate::desk::Final;
 use crate::serve::serve;
@@ -52,6 +55,22 @@ pub fn serve_with_boxes<S: Shelf, K: Sink>(
     shelf: &mut S,
     report: &mut K,
 ) -> Result<(Status, bool), AllocError>
+    // What went out, the files afterwards and the status are an outcome of the words, all boxes and
+    // the files.
+    ensures outcome { let before : Counts =
+        record { writes = K.faults report.old; stores = S.store_faults shelf.old } in
+        let now : Counts =
+        record { writes = K.faults report.new; stores = S.store_faults shelf.new } in
+        IfOk result (λ end. (files : Files) → S.files shelf.old ≡ Some files → (out : List ℕ)
+        × (left : Files) × (handed : Handed) × Took (K.taken report.old) (K.taken report.new) out
+        × (S.files shelf.new ≡ Some left)
+        × Outcome (contents words.now) all_boxes files (record {
+          out = out;
+          files = left;
+          handed = handed;
+          before = before;
+          now = now;
+        }) end.0) }
     ensures nothing { OnErr result ((shelf.new ≡ shelf.old) × (report.new ≡ report.old)) }
 {
     let mut pool: Vec<Box<dyn Observer>> = Vec::new(alloc);

@@ -1,11 +1,13 @@
 use denote.Param.Object.{read_made}
-use Rattle.std.proofs.Common.{◌≡◌, refl, sym, ap, subst, inl, ◌∙◌}
+use Rattle.std.proofs.Common.{◌≡◌, rules, map, refl, sym, ap, subst, inl, ◌∙◌}
+use Rattle.std.specs.List.{range_with_len}
 use Rattle.plain_digraph.specs.Lists.{AllOf}
+use Rattle.plain_machine.specs.Words.{contents}
 use Rattle.guard_kinds.specs.GuardViews.{guard_seen, unarmed}
 use Rattle.observe_core.specs.Seen.{Seen, Watched}
 use Rattle.desk_world.specs.Plain.{kinds_of, word_of}
-use Rattle.lemon_desk.specs.Pool.{IsUntoldGuard}
-use Rattle.lemon_desk.proofs.Boxes.{more_kinds, more_untold, untold_unarmed}
+use Rattle.lemon_desk.specs.Pool.{IsUntoldGuard, kind_at}
+use Rattle.lemon_desk.proofs.Boxes.{by_kinds, more_kinds, more_untold, untold_unarmed}
 use Rattle.lemon_desk.proofs.pool.serve_with_boxes.OwnLists.{own-1}
 use Rattle.lemon_desk.proofs.pool.serve_with_boxes.Goals as goal
 
@@ -33,3 +35,20 @@ loop-place-preserved g c =
           c.loop-place.invariant.kinds
           (ap (λ (s : Seen). word_of s.kind) seen ∙ c.kind_at.ensures.kind);
     }
+
+pub returns : goal.returns
+returns g c = record {
+  outcome = λ files told.
+      let run = c.serve-status.ensures.outcome files told in
+      let ended : c.loop-place.place ≡ 96 = search rules in
+      let kinds = c.loop-place.invariant.kinds
+      ∙ ap (λ n. map kind_at (range_with_len 0 n)) ended in (
+        run.0,
+        run.1,
+        _,
+        run.2,
+        run.3,
+        by_kinds (contents c.args.words.now) _ _ files _ c.serve-status.result.0 kinds run.4,
+      );
+  nothing = tt;
+}
