@@ -1,0 +1,4 @@
+pub mod Turning
+pub mod Matched
+pub mod Paired
+pub mod Runs
