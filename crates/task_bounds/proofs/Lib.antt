@@ -1,0 +1,5 @@
+pub mod Filled
+pub mod Weighing
+pub mod Taking
+pub mod Summing
+pub mod Readied

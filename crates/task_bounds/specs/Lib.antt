@@ -1,0 +1,4 @@
+pub mod Given
+pub mod Excess
+pub mod Plan
+pub mod Barriers

@@ -1,0 +1,18 @@
+//! Bounds and supplies of flows, of which some may be absent, as lists; what each node has to send
+//! once the lower bounds are sent; exact sums over arcs and nodes; flows and barriers as lists.
+#![tactic(auto)]
+
+mod barrier;
+mod excess;
+mod flows;
+mod given;
+mod plan;
+mod positive;
+mod sums;
+
+pub use barrier::barrier_of;
+pub use flows::flows_of;
+pub use given::OPEN;
+pub use plan::{Plan, plan_of};
+pub use positive::first_positive;
+pub use sums::{cost_along, cost_of};
