@@ -1,0 +1,4 @@
+pub mod Shift
+pub mod Answered
+pub mod Found
+pub mod Runs
