@@ -3,11 +3,21 @@
 #![tactic(auto)]
 
 #[cfg(test)]
+mod bounds;
+#[cfg(test)]
 mod builds;
+#[cfg(test)]
+mod circulations;
+#[cfg(test)]
+mod cuts;
 #[cfg(test)]
 mod flows;
 #[cfg(test)]
+mod pairings;
+#[cfg(test)]
 mod paths;
 mod tasks;
+#[cfg(test)]
+mod texts;
 
 pub use tasks::{are_within, digraph};
