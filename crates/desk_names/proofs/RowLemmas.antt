@@ -1,17 +1,17 @@
 -- Rows under their names, from the entries of a map.
-use Rattle.std.proofs.Common.{◌≡◌, ℕ, Bool, true, false, cond, List, [], ◌∷◌, ◌++◌, map, filter}
+use Rattle.std.proofs.Common.{◌≡◌, Bool, true, false, cond, List, [], ◌∷◌, ◌++◌, map, filter}
 use Rattle.std.proofs.Common.{Option}
-use Rattle.std.proofs.Common.{Some, None, refl, sym, ap, ◌∙◌, is_some}
-use Rattle.std.specs.Prelude.{not, option_map, find}
+use Rattle.std.proofs.Common.{Some, None, refl, sym, ap, subst, ◌∙◌, is_some}
+use Rattle.std.specs.Prelude.{ℕ, suc, ◌+◌, length, nat_lt, not, option_map, find, position}
 use Rattle.std.specs.Str.{bytes_eq}
 use Rattle.std.specs.Cmp.{both_ways}
-use Rattle.std.specs.List.{AllByRecursion, IsDistinct}
-use Rattle.std.specs.Map.{lookup, remove_entry, keys_of}
+use Rattle.std.specs.List.{AllByRecursion, IsDistinct, position_or_len}
+use Rattle.std.specs.Map.{lookup, remove_entry, set_value, keys_of}
 use Rattle.std.proofs.lemmas.Bool.{true≢false, or_from}
 use Rattle.std.proofs.lemmas.Slice.Eq.{bytes_eq-Decides}
 use Rattle.token_text.specs.Names.{is_among, has_twice}
 use Rattle.plain_world.specs.Tables.{Name, Named, under, is_named, entry, has_entry}
-use Rattle.plain_world.specs.Tables.{without_entry}
+use Rattle.plain_world.specs.Tables.{with_change, without_entry}
 use Rattle.plain_world.specs.Valid.{NamesDiffer}
 use Rattle.desk_names.specs.Rows.{rows_of}
 
@@ -35,6 +35,27 @@ module _ {V : Type 0} where
         | true ↦ refl
         | false ↦ rest
       ]
+
+  -- the place of a key is that of the name
+  same_place : (name : Name) (es : List (Name × V))
+      → position_or_len (bytes_eq name) (keys_of es) ≡ position_or_len (is_named name) (rows_of es)
+  same_place name [] = refl
+  same_place name (e ∷ es) =
+      let rest = same_place name es in
+      λ i. cond (not (same_back name e.0 i)) (1 + rest i) 0
+
+  same_length : (es : List (Name × V)) → length (keys_of es) ≡ length (rows_of es)
+  same_length [] = refl
+  same_length (e ∷ es) =
+      let rest = same_length es in
+      ap suc rest
+
+  pub place_found : (name : Name) (es : List (Name × V))
+      → position (bytes_eq name) (keys_of es) ≡ position (is_named name) (rows_of es)
+  place_found name es =
+      let at = same_place name es in
+      let size = same_length es in
+      λ i. cond (nat_lt (at i) (size i)) (Some (at i)) None
 
   pub rows_pushed : (es : List (Name × V)) (name : Name) (value : V)
       → rows_of (es ++ (name, value) ∷ []) ≡ rows_of es ++ under name value ∷ []
@@ -74,6 +95,56 @@ module _ {V : Type 0} where
             ap (λ more. under e.0 e.1 ∷ more) rest
             ∙ sym (ap (λ b. cond (not b) (under e.0 e.1 ∷ without_entry (rows_of es) name)
             (without_entry (rows_of es) name)) (same_back e.0 name ∙ apart))
+      ] refl
+
+  -- a name that isn't among them changes none
+  none_changed : (name : Name) (value : V) (es : List (Name × V))
+      → AllByRecursion (λ y. bytes_eq name y ≡ false) (keys_of es)
+      → with_change (rows_of es) name (λ _. value) ≡ rows_of es
+  none_changed name value [] apart = refl
+  none_changed name value (e ∷ es) apart =
+      let rest = none_changed name value es apart.1 in
+      λ i. cond ((same_back e.0 name ∙ apart.0) i) (under e.0 value) (under e.0 e.1) ∷ rest i
+
+  pub rows_changed : (name : Name) (value : V) (es : List (Name × V))
+      → IsDistinct bytes_eq (keys_of es)
+      → rows_of (set_value (bytes_eq name) es value)
+      ≡ with_change (rows_of es) name (λ _. value)
+  unfolding IsDistinct
+  rows_changed name value [] distinct = refl
+  rows_changed name value (e ∷ es) distinct =
+      let rest = rows_changed name value es distinct.1 in
+      let changed = with_change (rows_of es) name (λ _. value) in
+      elim (bytes_eq name e.0) as (λ b. bytes_eq name e.0 ≡ b
+      → rows_of (cond b ((e.0, value) ∷ es) (e ∷ set_value (bytes_eq name) es value))
+      ≡ with_change (rows_of (e ∷ es)) name (λ _. value)) [
+        | true ↦ λ same.
+            (let is : e.0 ≡ name = sym ((bytes_eq-Decides name e.0).0 same) in
+            let others = none_changed name value es
+            (subst (λ n. AllByRecursion (λ y. bytes_eq n y ≡ false) (keys_of es)) is distinct.0) in
+            sym (λ i. cond ((same_back e.0 name ∙ same) i) (under e.0 value) (under e.0 e.1)
+            ∷ others i))
+        | false ↦ λ apart.
+            sym (λ i. cond ((same_back e.0 name ∙ apart) i) (under e.0 value) (under e.0 e.1)
+            ∷ sym rest i)
+      ] refl
+
+  -- where none has the name, none is changed
+  pub none_to_change : (name : Name) (value : V) (es : List (Name × V))
+      → lookup (bytes_eq name) es ≡ None
+      → with_change (rows_of es) name (λ _. value) ≡ rows_of es
+  none_to_change name value [] none = refl
+  none_to_change name value (e ∷ es) none =
+      let rest = none_to_change name value es in
+      elim (bytes_eq name e.0) as (λ b. bytes_eq name e.0 ≡ b
+      → with_change (rows_of (e ∷ es)) name (λ _. value) ≡ rows_of (e ∷ es)) [
+        | true ↦ λ same.
+            (let there = ap (λ b. cond b (Some e.1) (lookup (bytes_eq name) es)) same in
+            absurd (true≢false (ap is_some (sym there ∙ none))))
+        | false ↦ λ apart.
+            (let gone = ap (λ b. cond b (Some e.1) (lookup (bytes_eq name) es)) apart in
+            λ i. cond ((same_back e.0 name ∙ apart) i) (under e.0 value) (under e.0 e.1)
+            ∷ rest (sym gone ∙ none) i)
       ] refl
 
   pub names_of : (es : List (Name × V))

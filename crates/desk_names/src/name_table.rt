@@ -1,15 +1,16 @@
 //! A table of names.
 
 ghost use Rattle.std.specs.Prelude.{◌≡◌, ◌+◌, ◌<◌, ◌≤◌, ◌==◌, [], length, map, false, slice_get};
-ghost use Rattle.std.specs.Prelude.{OnOk, OnErr, Some, is_some};
+ghost use Rattle.std.specs.Prelude.{OnOk, OnErr, Some, is_some, position};
 ghost use Rattle.std.specs.Option.{option_copied};
-ghost use Rattle.plain_world.specs.Tables.{entry, has_entry, under, with_entry, with_change};
-ghost use Rattle.plain_world.specs.Tables.{without_entry};
+ghost use Rattle.plain_world.specs.Tables.{entry, has_entry, is_named, under, with_entry};
+ghost use Rattle.plain_world.specs.Tables.{with_change, without_entry};
 ghost use Rattle.plain_world.specs.Valid.{NamesDiffer};
 
 use indexmap::IndexMap;
 use std::alloc::{AllocError, Global};
 use std::marker::Model;
+use std::mem;
 use token_text::Text;
 
 /// What stands under each of some names, in the order of making. No name stands twice. A look-up
@@ -85,6 +86,14 @@ impl<V: Drop> NameTable<V> {
         self.entries.get(name)
     }
 
+    /// At which place the name stands, from the oldest on. None exactly where it isn't there.
+    pub fn place(&self, name: &Text) -> Option<usize>
+        ensures place { result ≡ position (is_named name.now) self.now.rows }
+        ensures differ { NamesDiffer self.now.rows }
+    {
+        self.entries.get_index_of(name)
+    }
+
     /// The name at a place, from the oldest on.
     pub fn name(&self, place: usize) -> &Text
         requires { place < length self.now.rows }
@@ -126,6 +135,20 @@ impl<V: Drop> NameTable<V> {
         match self.entries.insert(name, value) {
             Ok(_) => {}
             Err(_) => unreachable!(),
+        }
+    }
+
+    /// Puts another value under a name. What stood there; None exactly where the name isn't there.
+    /// The names and their order are as before.
+    pub fn replace(&mut self, name: &Text, value: V) -> Option<V>
+        ensures value { result ≡ entry self.old.rows name.now }
+        ensures differ { NamesDiffer self.old.rows }
+        ensures rows { self.new.rows ≡ with_change self.old.rows name.now (λ _. value) }
+        ensures room { self.old.room ≤ self.new.room }
+    {
+        match self.entries.get_mut(name) {
+            Some(place) => Some(mem::replace(place, value)),
+            None => None,
         }
     }
 
