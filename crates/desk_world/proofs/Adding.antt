@@ -5,10 +5,7 @@ use Rattle.std.proofs.Common.{ap, subst, Option, Some, None, ◌∙◌, inl, inr
 use Rattle.std.specs.Prelude.{IsTrue, nat_le, ◌==◌}
 use Rattle.std.proofs.lemmas.Bool.{cases_eq, eq-eqb, ne_eqb}
 use Rattle.std.proofs.lemmas.Option.{none-some, same_Some}
-use Rattle.base_items.specs.declared.items.ItemSort.{ItemSort}
-use Rattle.base_items.specs.declared.items.ItemSort.TheVariants as sorts
-use Rattle.plain_digraph.specs.Lists.{AllOf}
-use Rattle.plain_digraph.specs.Rising.{with_item, without_item}
+use Rattle.plain_digraph.specs.Rising.{with_item}
 use Rattle.observe_core.specs.Held.{Entry, entry_id, LacksLabel}
 use Rattle.observe_core.specs.Items.{has_id}
 use Rattle.observe_core.specs.Seen.{Seen}

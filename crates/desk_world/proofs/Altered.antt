@@ -20,6 +20,7 @@ use Rattle.alter_graph.specs.Steps.{altered}
 use Rattle.alter_graph.specs.Outcome.{Goes}
 use Rattle.alter_graph.proofs.Parting.{graph_on}
 use Rattle.alter_graph.proofs.Sameness.{same_seats}
+use Rattle.alter_graph.proofs.Taking.{steady_in}
 use Rattle.plain_world.specs.Tables.{Named, under}
 use Rattle.plain_world.specs.World as plain
 use Rattle.plain_world.specs.Following.{follow}
@@ -27,6 +28,7 @@ use Rattle.plain_world.specs.Valid.{IsWorld, IsGuard, HasLeft}
 use Rattle.desk_world.specs.declared.tables.GuardRow.{GuardRow}
 use Rattle.desk_world.specs.declared.world.World.{World}
 use Rattle.desk_world.specs.Claims.{claims_of}
+use Rattle.desk_world.specs.Derived.{AreDerived}
 use Rattle.desk_world.specs.Entries.{room_for_labels}
 use Rattle.desk_world.specs.InStep.{AreInStep}
 use Rattle.desk_world.specs.Leaving.{AreAltered}
@@ -120,8 +122,9 @@ module _ {O : Type 0} (watch : O → Watched) (w : World O) (in_step : AreInStep
   pub carries_in_step : Carries w s
   carries_in_step = record {
     valid = in_step.graph.valid;
-    stood = stood_in_step s in_step.graph;
+    stood = stood_in_step s in_step.graph (λ sort. steady_in watch sort w.graph.chains);
     remain = remain_all (claims_of w) s.chains in_step.seated;
+    derived = in_step.derived;
     all_there = λ none. each_still (claims_of w) s.chains in_step.seated.there;
   }
 
@@ -156,10 +159,9 @@ module _ {O : Type 0} (watch : O → Watched) (w : World O) (a : AlterOf O) (ste
       bare = record {
         snapshots = in_step.bare.snapshots;
         views = in_step.bare.views;
-        node_maps = in_step.bare.node_maps;
-        arc_maps = in_step.bare.arc_maps;
-        attributes = in_step.bare.attributes;
       };
+      derived = subst (λ look. AreDerived look w.nodes w.arcs w.attributes.rows)
+          (sym (look_alike (claims_of w) last.chains t.chains goes.took.chains)) carried.derived;
       all_there = λ none. all_kept (still_by (look_in t.chains)) (claims_of w)
           (subst (λ look. AllOf (λ x. still_by look x ≡ true) (claims_of w))
           (sym (look_alike (claims_of w) last.chains t.chains goes.took.chains))

@@ -43,6 +43,36 @@ as_values t (Half added others kept valid) m = absurd (true≢false (sym (ap is_
 as_values t (Kept role all items) m = absurd (true≢false (sym (ap is_values m)))
 as_values t (Ties ties) m = absurd (true≢false (sym (ap is_values m)))
 
+abbrev is_degree : Making → Bool
+is_degree OfGuard = false
+is_degree (OfValues t) = false
+is_degree (OfDegree out) = true
+is_degree OfHalf = false
+is_degree (OfKept role all) = false
+is_degree OfTies = false
+
+abbrev end_made : Making → Bool
+end_made OfGuard = false
+end_made (OfValues t) = false
+end_made (OfDegree out) = out
+end_made OfHalf = false
+end_made (OfKept role all) = false
+end_made OfTies = false
+
+-- what is held is ends of arcs
+pub record AreEnds (out : Bool) (h : Held) : Type 0 where
+  pub ends : List ℕ
+  pub is : h ≡ Degree out ends
+
+pub as_ends : (out : Bool) (h : Held) → making_of h ≡ OfDegree out → AreEnds out h
+as_ends out Nothing m = absurd (true≢false (sym (ap is_degree m)))
+as_ends out (Values u es) m = absurd (true≢false (sym (ap is_degree m)))
+as_ends out (Degree own ends) m =
+    subst (λ e. AreEnds e (Degree own ends)) (ap end_made m) (record { ends = ends; is = refl })
+as_ends out (Half added others kept valid) m = absurd (true≢false (sym (ap is_degree m)))
+as_ends out (Kept role all items) m = absurd (true≢false (sym (ap is_degree m)))
+as_ends out (Ties ties) m = absurd (true≢false (sym (ap is_degree m)))
+
 -- what is held is ties
 pub record AreTies (h : Held) : Type 0 where
   pub ties : List Tie

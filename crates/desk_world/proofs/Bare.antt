@@ -1,5 +1,5 @@
 -- A world with the seats of labels and ties alone.
-use Rattle.std.proofs.Common.{◌≡◌, ℕ, List, [], ◌∷◌, ◌++◌, map, Option, Some, None, refl, sym, ap}
+use Rattle.std.proofs.Common.{◌≡◌, ℕ, suc, List, [], ◌∷◌, ◌++◌, map, Option, Some, None, refl, sym, ap}
 use Rattle.std.proofs.Common.{◌∙◌, subst, true, false}
 use Rattle.std.specs.Prelude.{nat_le, option_map, cond}
 use Rattle.std.specs.List.{filter_map, cons_option, flat_map}
@@ -9,17 +9,14 @@ use Rattle.std.specs.FinMap as fin
 use Rattle.base_items.specs.declared.items.Fact.{Fact}
 use Rattle.base_items.specs.declared.items.ItemSort.{ItemSort}
 use Rattle.base_items.specs.declared.items.ItemSort.TheVariants.{Node, Arc}
-use Rattle.script_words.specs.declared.commands.GuardWord.{GuardWord}
-use Rattle.plain_digraph.specs.Digraph.{Digraph}
 use Rattle.plain_digraph.specs.Items.{facts}
-use Rattle.plain_digraph.specs.Lists.{AllOf}
 use Rattle.plain_digraph.specs.Rising.{with_item}
 use Rattle.observe_core.specs.Held as held
 use Rattle.observe_core.specs.Held.{Entry, entry_id}
 use Rattle.observe_core.specs.Items.{place_all}
 use Rattle.observe_core.specs.Seen.{Seen, Watched}
 use Rattle.observe_core.specs.Told.{built, new_entry}
-use Rattle.alter_graph.specs.Chains.{ChainsSeen, no_chains, chains_seen}
+use Rattle.alter_graph.specs.Chains.{no_chains}
 use Rattle.alter_graph.specs.State as graph
 use Rattle.alter_graph.specs.State.{State, state_of}
 use Rattle.plain_world.specs.Tables.{Name, Named, under}
@@ -35,13 +32,14 @@ use Rattle.desk_world.specs.Claims.{Claim, Plays, Labels, Ties, claims_of, own_c
 use Rattle.desk_world.specs.Claims.{guard_claim, snap_claims}
 use Rattle.desk_world.specs.Columns.{labelled}
 use Rattle.desk_world.specs.Founding.{Founds, new_labels, new_ties}
-use Rattle.desk_world.specs.InStep.{AreInStep, AreBoxes, AreSeated, is_plain}
-use Rattle.desk_world.specs.InStep.{has_values}
-use Rattle.desk_world.specs.Looks.{Look, looked, look_in}
+use Rattle.desk_world.specs.Derived.{AreIndexed, AreNumbered, AreOfRows, ties_at}
+use Rattle.desk_world.specs.InStep.{AreInStep, AreBoxes, AreSeated}
+use Rattle.desk_world.specs.Looks.{looked}
 use Rattle.desk_world.specs.Plain.{plain_of, kinds_of, look_of, labels_seen, attribute_seen}
 use Rattle.desk_world.specs.Plain.{ties_seen, map_seen, guard_seen, snapshot_seen, view_of}
 use Rattle.desk_world.proofs.Founded.{AreFounded, founded, four_claims, four_seated}
-use Rattle.desk_world.proofs.Founded.{node_labels_seen, arc_labels_seen}
+use Rattle.desk_world.proofs.Founded.{node_labels_seen, arc_labels_seen, node_ties_seen}
+use Rattle.desk_world.proofs.Founded.{arc_ties_seen}
 
 -- ---- no item has a label
 
@@ -107,10 +105,10 @@ plain_seen ties [] = refl
 plain_seen ties (a ∷ attributes) =
     ap (λ more. under a.0 (plain.Plain a.1) ∷ more) (plain_seen ties attributes)
 
-all_plain : (attributes : List (Name × Name))
-    → AllOf (λ e. is_plain e.value ≡ true) (plain_table attributes)
-all_plain [] = tt
-all_plain (a ∷ attributes) = (refl, all_plain attributes)
+plain_numbered : (place : ℕ) (attributes : List (Name × Name))
+    → AreNumbered place (plain_table attributes)
+plain_numbered place [] = tt
+plain_numbered place (a ∷ attributes) = (tt, plain_numbered (suc place) attributes)
 
 -- ---- the world
 
@@ -187,6 +185,11 @@ module _ {O : Type 0} (watch : O → Watched) (w : World O) (s0 s2 : State)
       (ties_play (facts arcs.mid.graph Arc) arcs.ties.seen are.arc_ties.seen are.arc_ties_are
       arcs.ties_are))
 
+  no_ties : (o : Option Seen) (live : List Fact) (s t : Seen) → o ≡ Some t → t ≡ built live s
+      → s ≡ new_ties → ties_at o ≡ []
+  no_ties o live s t there built_is is =
+      ap ties_at (there ∙ ap Some (built_is ∙ ap (built live) is))
+
   pub bare_in_step : graph.IsInStep last → AreBoxes watch w.pool.items → AreInStep watch w
   bare_in_step in_step boxes = record {
     graph = in_step;
@@ -195,10 +198,19 @@ module _ {O : Type 0} (watch : O → Watched) (w : World O) (s0 s2 : State)
     bare = record {
       snapshots = no_snapshots;
       views = no_views;
-      node_maps = subst (AllOf (λ e. has_values e.value.kind ≡ true)) (sym nodes.no_maps) tt;
-      arc_maps = subst (AllOf (λ e. has_values e.value.kind ≡ true)) (sym arcs.no_maps) tt;
-      attributes = subst (AllOf (λ e. is_plain e.value ≡ true)) (sym plain_rows)
-          (all_plain attributes);
+    };
+    derived = record {
+      node_indexes = subst (AreIndexed (look_of watch w Node)) (sym nodes.no_maps) tt;
+      arc_indexes = subst (AreIndexed (look_of watch w Arc)) (sym arcs.no_maps) tt;
+      numbered = subst (AreNumbered 0) (sym plain_rows) (plain_numbered 0 attributes);
+      node_ties = subst (AreOfRows Node w.attributes.rows)
+          (sym (no_ties (look_of watch w Node b) (facts nodes.mid.graph Node) nodes.ties.seen
+          are.node_ties.seen (node_ties_seen a b c d x y z u last.chains are)
+          are.node_ties_are nodes.ties_are)) tt;
+      arc_ties = subst (AreOfRows Arc w.attributes.rows)
+          (sym (no_ties (look_of watch w Arc d) (facts arcs.mid.graph Arc) arcs.ties.seen
+          are.arc_ties.seen (arc_ties_seen a b c d x y z u last.chains are)
+          are.arc_ties_are arcs.ties_are)) tt;
     };
   }
 

@@ -1,9 +1,9 @@
 -- The world of a document before its rows are read: no item has a label, and each has an empty text
 -- in each map.
-use Rattle.std.proofs.Common.{◌≡◌, ℕ, Bool, true, false, cond, List, [], ◌∷◌, map, Option, Some}
+use Rattle.std.proofs.Common.{◌≡◌, ℕ, Bool, true, false, cond, List, [], ◌∷◌, map, Some}
 use Rattle.std.proofs.Common.{None}
 use Rattle.std.proofs.Common.{refl, sym, ap, ◌∙◌, subst, inl, inr}
-use Rattle.std.specs.Prelude.{◌==◌, nat_le, if◌then◌else◌}
+use Rattle.std.specs.Prelude.{◌==◌, nat_le}
 use Rattle.std.specs.Ordering.{nat_cmp}
 use Rattle.std.specs.Cmp.{nat_cmp_total}
 use Rattle.std.specs.FinMap as fin
@@ -16,15 +16,15 @@ use Rattle.script_words.specs.declared.commands.GuardWord.{GuardWord}
 use Rattle.plain_digraph.specs.Digraph as plain
 use Rattle.plain_digraph.specs.Items.{facts, node_fact, arc_fact}
 use Rattle.plain_digraph.specs.Steps.{new_node, new_arc}
-use Rattle.plain_digraph.specs.PlainSteps.{Change, Added, Untouched, AddNode, AddArc, change_of}
+use Rattle.plain_digraph.specs.PlainSteps.{Added, Untouched, AddNode, AddArc, change_of}
 use Rattle.plain_digraph.specs.Facts.{fact_id}
 use Rattle.plain_digraph.specs.Rising.{with_item}
 use Rattle.plain_digraph.specs.Valid.{IsValid}
 use Rattle.plain_digraph.proofs.Keys.{get_new, get_other}
 use Rattle.plain_digraph.proofs.StepFacts.{added_node_facts, added_arc_facts}
 use Rattle.observe_core.specs.Items.{has_id, place_all}
-use Rattle.plain_world.specs.Tables.{Name, Named, under, each_changed}
-use Rattle.plain_world.specs.World.{World, Column, Held, Texts, Attribute, Plain}
+use Rattle.plain_world.specs.Tables.{Name, under, each_changed}
+use Rattle.plain_world.specs.World.{World, Column, Texts, Plain}
 use Rattle.plain_world.specs.Following.{follow, held_after, attribute_after}
 use Rattle.plain_world.specs.Documents.{opened}
 use Rattle.desk_world.specs.Blank.{AreBlank, blanks, plain_attributes, blank_world, IsBlank}

@@ -50,7 +50,7 @@ module _ {X : Type 0} (x : X) where
         | false ↦ (all.0, rest)
       ]
 
-  same_place : (es ys : List (Entry X)) → AreSame es → AreSame ys
+  pub same_place : (es ys : List (Entry X)) → AreSame es → AreSame ys
       → AreSame (place_all entry_id es ys)
   same_place [] ys all more = more
   same_place (e ∷ es) ys all more =
@@ -103,7 +103,7 @@ module _ (t : held.MapType) where
   abbrev news : List Fact → List (Entry (ValueOf t))
   news all = map (λ f. new_entry t f.id) all
 
-  news_same : (all : List Fact)
+  pub news_same : (all : List Fact)
       → AllOf (λ (e : Entry (ValueOf t)). e.value ≡ default_of t) (news all)
   news_same [] = tt
   news_same (f ∷ all) = (refl, news_same all)

@@ -14,8 +14,8 @@ use Rattle.plain_digraph.specs.Items.{facts}
 use Rattle.plain_digraph.specs.PlainSteps.{PlainStep, sort_of, after_step}
 use Rattle.plain_digraph.specs.Valid.{IsValid}
 use Rattle.observe_core.specs.Fits.{Fits}
-use Rattle.observe_core.specs.Seen.{Seen}
-use Rattle.notify_chain.specs.Seats.{SeatSeen, AllSeats}
+use Rattle.observe_core.specs.Seen.{Seen, IsSound}
+use Rattle.notify_chain.specs.Seats.{SeatSeen, AllSeats, Steady}
 use Rattle.alter_graph.specs.Chains.{ChainsSeen, chain_in, seats_in}
 use Rattle.alter_graph.specs.Present.{present_of, facts_in}
 use Rattle.alter_graph.specs.State as graph
@@ -31,6 +31,7 @@ use Rattle.desk_world.specs.declared.world.World.{World}
 use Rattle.desk_world.specs.Claims as claims
 use Rattle.desk_world.specs.Claims.{Claim, Role, Plays, Sits, claims_of, guard_claim, map_claim}
 use Rattle.desk_world.specs.Claims.{snap_claims, role_of, has_map_kind}
+use Rattle.desk_world.specs.Derived.{AreDerived}
 use Rattle.desk_world.specs.InStep.{IsBare}
 use Rattle.desk_world.specs.Looks.{Look, look_in, seen_at, room_at}
 use Rattle.desk_world.specs.Plain.{seat_sort, tables_of, world_seen}
@@ -42,30 +43,45 @@ use Rattle.desk_world.proofs.Hearing.{hears_in, seats_hear, made_hear, maps_hear
 use Rattle.desk_world.proofs.Hearing.{facts_sort, charged_hear, none_left_stay}
 use Rattle.desk_world.proofs.Remaining.{RemainIn, StillSits, remain_on, before, still_by}
 use Rattle.desk_world.proofs.Seated.{all_left, all_right, all_so}
+use Rattle.desk_world.proofs.StillDerived.{derived_then}
 use Rattle.desk_world.proofs.Stood.{Stood, stood_of_fits}
 use Rattle.desk_world.proofs.Takes.{TakesAll}
 
 -- ---- what each observer stands for
 
-pub seen_fits : (stamps : ℕ) (live : List Fact) (key : ℕ) (ss : List SeatSeen) (s : Seen)
-    → AllSeats (Stands stamps live) ss → seen_at key ss ≡ Some s → Fits s live
-seen_fits stamps live key [] s all at = absurd (none-some s at)
-seen_fits stamps live key (t ∷ ss) s all at =
-    let rest = seen_fits stamps live key ss s all.1 in
-    elim (t.key == key) as (λ b. cond b (Some t.seen) (seen_at key ss) ≡ Some s → Fits s live) [
-      | true ↦ λ h. subst (λ x. Fits x live) (same_Some t.seen s h) all.0.fits
+-- what is so of each seat's observer is so of what is seen under a key
+seen_so : (P : SeatSeen → Type 0) (Q : Seen → Type 0) → ((t : SeatSeen) → P t → Q t.seen)
+    → (key : ℕ) (ss : List SeatSeen) (s : Seen) → AllSeats P ss → seen_at key ss ≡ Some s → Q s
+seen_so P Q so key [] s all at = absurd (none-some s at)
+seen_so P Q so key (t ∷ ss) s all at =
+    let rest = seen_so P Q so key ss s all.1 in
+    elim (t.key == key) as (λ b. cond b (Some t.seen) (seen_at key ss) ≡ Some s → Q s) [
+      | true ↦ λ h. subst Q (same_Some t.seen s h) (so t all.0)
       | false ↦ λ h. rest h
     ] at
 
-pub stood_in_step : (s : State) → graph.IsInStep s → AreStood s
-stood_in_step s at sorts.Node key was is =
+pub seen_fits : (stamps : ℕ) (live : List Fact) (key : ℕ) (ss : List SeatSeen) (s : Seen)
+    → AllSeats (Stands stamps live) ss → seen_at key ss ≡ Some s → Fits s live
+seen_fits stamps live =
+    seen_so (Stands stamps live) (λ s. Fits s live) (λ t stands. stands.fits)
+
+-- what is seen under a key is sound
+pub seen_sound : (key : ℕ) (ss : List SeatSeen) (s : Seen) → AllSeats Steady ss
+    → seen_at key ss ≡ Some s → IsSound s
+seen_sound = seen_so Steady IsSound (λ t steady. steady.0)
+
+pub stood_in_step : (s : State) → graph.IsInStep s
+    → ((sort : ItemSort) → AllSeats Steady (seats_in sort s.chains)) → AreStood s
+stood_in_step s at steady sorts.Node key was is =
     stood_of_fits (facts s.graph sorts.Node) was
     (seen_fits s.graph.stamps (facts s.graph sorts.Node) key s.chains.nodes.seats was
     at.seats.nodes is)
-stood_in_step s at sorts.Arc key was is =
+    (seen_sound key s.chains.nodes.seats was (steady sorts.Node) is).held
+stood_in_step s at steady sorts.Arc key was is =
     stood_of_fits (facts s.graph sorts.Arc) was
     (seen_fits s.graph.stamps (facts s.graph sorts.Arc) key s.chains.arcs.seats was
     at.seats.arcs is)
+    (seen_sound key s.chains.arcs.seats was (steady sorts.Arc) is).held
 
 -- ---- what is known of the rows of the tables
 
@@ -117,12 +133,14 @@ module _ {O : Type 0} (w : World O) where
   abbrev pub HaveNoneLeft : ChainsSeen → Type 0
   HaveNoneLeft c = (sort : ItemSort) → (chain_in sort c).left ≡ []
 
-  -- the digraph is valid, each observer stands for its items, and the seats are those of the
-  -- tables, of which some guards may have left
+  -- the digraph is valid, each observer stands for its items, the seats are those of the tables,
+  -- of which some guards may have left, and indexes and ties are those of the maps and the
+  -- attributes
   pub record Carries (s : State) : Type 0 where
     pub valid : IsValid s.graph
     pub stood : AreStood s
     pub remain : RemainIn (claims_of w) s.chains
+    pub derived : AreDerived (look_in s.chains) w.nodes w.arcs w.attributes.rows
     pub all_there : HaveNoneLeft s.chains
         → AllOf (λ x. still_by (look_in s.chains) x ≡ true) (claims_of w)
 
@@ -174,6 +192,34 @@ module _ {O : Type 0} (w : World O) where
         of false (Some was) is still =
             (none_left_stay (sort_of step) n s.chains x.sort (none x.sort)).stay x.key was is
 
+    -- who sits in the seats of the tables
+    ties_sit : (sort : ItemSort)
+        → Sits claims.Ties (look_in s.chains sort (tables_of w sort).ties.0)
+    ties_sit sorts.Node = carries.remain.there.1.0 refl
+    ties_sit sorts.Arc = carries.remain.there.1.1.1.0 refl
+
+    abbrev MapsSit : ItemSort → List (Named MapRow) → Type 0
+    MapsSit sort table = AllOf (λ e. Sits (role_of e.value.kind)
+        (look_in s.chains (seat_sort sort e.value.kind) e.value.key.0)) table
+
+    node_maps_sit : MapsSit sorts.Node w.nodes.maps.rows
+    node_maps_sit =
+        maps_still (look_in s.chains) sorts.Node w.nodes.maps.rows
+        (all_left (StillSits (look_in s.chains)) node_claims
+        (arc_claims ++ (guard_claims ++ snapshot_claims)) carries.remain.there.1.1.1.1)
+
+    rows_there : AllOf (StillSits (look_in s.chains))
+        (arc_claims ++ (guard_claims ++ snapshot_claims))
+    rows_there =
+        all_right (StillSits (look_in s.chains)) node_claims
+        (arc_claims ++ (guard_claims ++ snapshot_claims)) carries.remain.there.1.1.1.1
+
+    arc_maps_sit : MapsSit sorts.Arc w.arcs.maps.rows
+    arc_maps_sit =
+        maps_still (look_in s.chains) sorts.Arc w.arcs.maps.rows
+        (all_left (StillSits (look_in s.chains)) arc_claims (guard_claims ++ snapshot_claims)
+        rows_there)
+
     pub carries_on : Carries (took step s)
     carries_on = record {
       valid = then_valid;
@@ -188,6 +234,9 @@ module _ {O : Type 0} (w : World O) where
       remain = remain_on s.chains d (λ sort. hears_in (sort_of step) sort n)
           (seats_hear (sort_of step) n s.chains) (made_hear (sort_of step) n)
           (maps_hear (sort_of step) n) carries.remain.keys_differ (claims_of w) carries.remain;
+      derived = derived_then step s carries.valid can then_valid carries.stood
+          carries.remain.keys_differ w.nodes w.arcs w.attributes.rows (ties_sit sorts.Node)
+          (ties_sit sorts.Arc) node_maps_sit arc_maps_sit carries.derived;
       all_there = λ none. all_so (λ x. still_by (look_in s.chains) x ≡ true)
           (λ x. still_by (look_in d) x ≡ true) (still_then none) (claims_of w)
           (carries.all_there
@@ -218,17 +267,11 @@ module _ {O : Type 0} (w : World O) where
     step_follows pool bare burn =
         let look = look_in s.chains in
         let there = carries.remain.there in
-        let rest = there.1.1.1.1 in
-        let arcs = all_right (StillSits look) node_claims
-        (arc_claims ++ (guard_claims ++ snapshot_claims)) rest in
-        let guards = all_right (StillSits look) arc_claims (guard_claims ++ snapshot_claims) arcs in
+        let guards = all_right (StillSits look) arc_claims (guard_claims ++ snapshot_claims)
+        rows_there in
         world_follows step s carries.valid can then_valid carries.stood
-        carries.remain.keys_differ w pool bare (there.0 refl) (there.1.1.0 refl)
-        (maps_still look sorts.Node w.nodes.maps.rows
-        (all_left (StillSits look) node_claims
-        (arc_claims ++ (guard_claims ++ snapshot_claims)) rest))
-        (maps_still look sorts.Arc w.arcs.maps.rows
-        (all_left (StillSits look) arc_claims (guard_claims ++ snapshot_claims) arcs))
+        carries.remain.keys_differ w pool bare (there.0 refl) (there.1.1.0 refl) ties_sit
+        node_maps_sit arc_maps_sit
         (guards_still look n w.guards.rows
         (all_left (StillSits look) guard_claims snapshot_claims guards) burn)
 

@@ -1,15 +1,12 @@
 -- A table of maps after one of its seats has changed, one came or one went.
-use Rattle.std.proofs.Common.{◌≡◌, ℕ, Bool, true, false, cond, List, [], ◌∷◌, ◌++◌, map, refl, sym}
+use Rattle.std.proofs.Common.{◌≡◌, true, false, cond, List, [], ◌∷◌, refl, sym}
 use Rattle.std.proofs.Common.{ap}
-use Rattle.std.proofs.Common.{subst, Option, Some, None, ◌∙◌, filter, not}
-use Rattle.std.specs.Prelude.{option_map, find, ◌==◌, ◌&&◌, ◌||◌}
-use Rattle.std.specs.List.{filter_map, cons_option, list_any}
+use Rattle.std.proofs.Common.{Option, Some, None, ◌∙◌, not}
+use Rattle.std.specs.Prelude.{option_map}
+use Rattle.std.specs.List.{cons_option}
 use Rattle.std.specs.Str.{bytes_eq}
-use Rattle.std.proofs.lemmas.Bool.{true≢false, or_parts}
-use Rattle.std.proofs.lemmas.Option.{none-some, same_Some}
-use Rattle.base_items.specs.declared.items.ItemSort.{ItemSort}
 use Rattle.plain_digraph.specs.Lists.{AllOf}
-use Rattle.plain_world.specs.Tables.{Name, Named, under, is_named, entry, has_entry, with_entry}
+use Rattle.plain_world.specs.Tables.{Name, Named, under, with_entry}
 use Rattle.plain_world.specs.Tables.{with_change, without_entry}
 use Rattle.desk_world.specs.Looks.{looked}
 

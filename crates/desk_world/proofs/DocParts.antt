@@ -1,8 +1,8 @@
 -- The parts of the document of a world, a row of a table at a time.
 use Rattle.std.proofs.Common.{◌≡◌, ℕ, ◌+◌, Bool, true, false, List, [], ◌∷◌, ◌++◌, map, take, refl}
-use Rattle.std.proofs.Common.{sym, ap, Option, Some, ◌∙◌, is_some, Contains}
+use Rattle.std.proofs.Common.{sym, ap, Option, Some, None, ◌∙◌, is_some, Contains}
 use Rattle.std.specs.Prelude.{option_map, slice_get}
-use Rattle.std.proofs.lemmas.Option.{same_Some}
+use Rattle.std.proofs.lemmas.Option.{none-some, same_Some}
 use Rattle.base_items.specs.declared.items.ItemSort.{ItemSort}
 use Rattle.base_items.specs.declared.items.ItemSort.TheVariants as sorts
 use Rattle.lgf_file.specs.Documents.{label as label_column}
@@ -15,17 +15,16 @@ use Rattle.plain_world.specs.Documents.{columns_of, cells_of, value_maps}
 use Rattle.plain_world.specs.Effects.{attribute_text}
 use Rattle.plain_world.specs.Values.{type_of, text_at}
 use Rattle.desk_world.specs.declared.tables.AttributeRow.{AttributeRow}
-use Rattle.desk_world.specs.declared.tables.AttributeRow.TheVariants as rows
 use Rattle.desk_world.specs.declared.tables.MapRow.{MapRow}
 use Rattle.desk_world.specs.declared.world.World.{World}
-use Rattle.desk_world.specs.InStep.{AreInStep, has_values, is_plain}
+use Rattle.desk_world.specs.InStep.{AreInStep, has_values}
 use Rattle.desk_world.specs.Looks.{looked}
 use Rattle.desk_world.specs.Plain.{plain_of, look_of, tables_of, map_seen, held_by}
 use Rattle.desk_world.specs.Plain.{attribute_seen, ties_seen}
 use Rattle.desk_world.proofs.MapsFound.{Leads, leads_held, rows_lead, type_held, typed}
 use Rattle.desk_world.proofs.MapsRead.{of_value}
 use Rattle.desk_world.proofs.TableRows.{passing, passing_more, passing_same, gathered}
-use Rattle.desk_world.proofs.TableRows.{gathered_more, listed_at, row_at, some_row}
+use Rattle.desk_world.proofs.TableRows.{gathered_more, gathered_same, listed_at, row_at, some_row}
 
 -- the map has values of its own
 abbrev pub is_typed : Named plain.Held → Bool
@@ -130,21 +129,41 @@ module _ {O : Type 0} (watch : O → Watched) (w : World O) where
   abbrev pub attributes_of : List (Named AttributeRow) → List (Name × List ℕ)
   attributes_of rows = gathered told (λ e. (e.name, attribute_text (plain_of watch w) e.value)) rows
 
-  pub attribute_more : (k : ℕ) (name : Name) (row : AttributeRow) (text : List ℕ)
-      → slice_get (map (λ (e : Named AttributeRow). e.name) w.attributes.rows) k ≡ Some name
-      → slice_get (map (λ (e : Named AttributeRow). e.value) w.attributes.rows) k ≡ Some row
-      → row ≡ rows.Plain text
-      → attributes_of (take (k + 1) w.attributes.rows)
-      ≡ attributes_of (take k w.attributes.rows) ++ (name, text) ∷ []
-  attribute_more k name row text named at is =
-      gathered_more told (λ e. (e.name, attribute_text (plain_of watch w) e.value))
-      w.attributes.rows k (under name row) (plain.Plain text)
-      (row_at w.attributes.rows k name row named at) (ap told is)
+  module _ (k : ℕ) (row : AttributeRow)
+      (at : slice_get (map (λ (e : Named AttributeRow). e.value) w.attributes.rows) k ≡ Some row)
+      (text : Option (List ℕ))
+      (is : text ≡ option_map (attribute_text (plain_of watch w)) (told row)) where
+    pub attribute_more : (name : Name) (own : List ℕ)
+        → slice_get (map (λ (e : Named AttributeRow). e.name) w.attributes.rows) k ≡ Some name
+        → text ≡ Some own
+        → attributes_of (take (k + 1) w.attributes.rows)
+        ≡ attributes_of (take k w.attributes.rows) ++ (name, own) ∷ []
+    attribute_more name own named some = by (told row) refl (sym is ∙ some)
+      where
+        by : (o : Option plain.Attribute) → told row ≡ o
+            → option_map (attribute_text (plain_of watch w)) o ≡ Some own
+            → attributes_of (take (k + 1) w.attributes.rows)
+            ≡ attributes_of (take k w.attributes.rows) ++ (name, own) ∷ []
+        by None led has = absurd (none-some own has)
+        by (Some a) led has =
+            gathered_more told (λ e. (e.name, attribute_text (plain_of watch w) e.value))
+            w.attributes.rows k (under name row) a (row_at w.attributes.rows k name row named at)
+            led
+            ∙ ap (λ t. attributes_of (take k w.attributes.rows) ++ (name, t) ∷ [])
+            (same_Some (attribute_text (plain_of watch w) a) own has)
 
-  -- each attribute is plain
-  pub plain_at : AreInStep watch w → (k : ℕ) (row : AttributeRow)
-      → slice_get (map (λ (e : Named AttributeRow). e.value) w.attributes.rows) k ≡ Some row
-      → is_plain row ≡ true
-  plain_at in_step k row at =
-      of_value (λ row. is_plain row ≡ true) w.attributes.rows row in_step.bare.attributes
-      (listed_at (map (λ (e : Named AttributeRow). e.value) w.attributes.rows) k row at)
+    pub attribute_same : text ≡ None
+        → attributes_of (take (k + 1) w.attributes.rows)
+        ≡ attributes_of (take k w.attributes.rows)
+    attribute_same none = by (told row) refl (sym is ∙ none)
+      where
+        by : (o : Option plain.Attribute) → told row ≡ o
+            → option_map (attribute_text (plain_of watch w)) o ≡ None
+            → attributes_of (take (k + 1) w.attributes.rows)
+            ≡ attributes_of (take k w.attributes.rows)
+        by None led lacks =
+            let found = some_row w.attributes.rows k row at in
+            gathered_same told (λ e. (e.name, attribute_text (plain_of watch w) e.value))
+            w.attributes.rows k found.0 found.1 (ap told found.2 ∙ led)
+        by (Some a) led lacks =
+            absurd (none-some (attribute_text (plain_of watch w) a) (sym lacks))

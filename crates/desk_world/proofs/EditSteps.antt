@@ -1,19 +1,17 @@
 -- The steps of the alterations that make no item.
-use Rattle.std.proofs.Common.{◌≡◌, ◌+◌, ◌≤◌, ◌*◌, ℕ, Bool, true, false, List, [], ◌∷◌, ◌++◌, length}
-use Rattle.std.proofs.Common.{refl, sym, ap, subst, ◌∙◌, arith, filter}
-use Rattle.base_items.specs.declared.items.ItemSort.TheVariants as sorts
+use Rattle.std.proofs.Common.{◌≡◌, ◌+◌, ◌≤◌, ◌*◌, true, false, List, [], ◌∷◌, length}
+use Rattle.std.proofs.Common.{refl, sym, subst, arith, filter}
 use Rattle.base_items.specs.declared.limits.TheConstants.{MAX_ARCS, MAX_STAMP}
 use Rattle.plain_digraph.specs.Digraph.{Digraph}
-use Rattle.plain_digraph.specs.Items.{IsLive, source_of, target_of, out_arcs, in_arcs}
+use Rattle.plain_digraph.specs.Items.{source_of, target_of, out_arcs, in_arcs}
 use Rattle.plain_digraph.specs.Lists.{AllOf}
 use Rattle.plain_digraph.specs.PlainSteps.{PlainStep, AddNode, AddArc, MoveFrom, MoveTo, Turn}
 use Rattle.plain_digraph.specs.PlainSteps.{PlaceBack, EraseArc, EraseNode, ClearArcs, ClearNodes}
-use Rattle.plain_digraph.specs.PlainSteps.{after_step, after_steps}
-use Rattle.plain_digraph.specs.Alterations.{Alteration, all_steps, refusable_steps, unrolled}
-use Rattle.plain_digraph.specs.Alterations.{contraction, loop_contraction, is_neither, single}
+use Rattle.plain_digraph.specs.PlainSteps.{after_steps}
+use Rattle.plain_digraph.specs.Alterations.{all_steps, refusable_steps, unrolled}
+use Rattle.plain_digraph.specs.Alterations.{contraction, is_neither}
 use Rattle.plain_digraph.specs.Valid.{IsValid}
 use Rattle.plain_digraph.proofs.Contracted.{contraction_is_known, loop_contraction_is_known}
-use Rattle.alter_graph.specs.Contraction.{contraction_of}
 use Rattle.alter_graph.specs.Room.{HasRoomFor, nodes_by, nodes_in, arcs_by, arcs_in}
 use Rattle.plain_world.proofs.Erasures.{node_goes_surely}
 use Rattle.plain_world.proofs.Moves.{IsShift, both_shift}

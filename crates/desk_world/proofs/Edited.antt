@@ -1,5 +1,5 @@
 -- What a command answers that alters the digraph, and the world that it leaves.
-use Rattle.std.proofs.Common.{◌≡◌, ◌+◌, ◌*◌, ◌≤◌, List, [], ◌∷◌, ◌++◌, length, map, refl, sym, ap}
+use Rattle.std.proofs.Common.{◌≡◌, ◌+◌, ◌*◌, ◌≤◌, List, [], ◌∷◌, ◌++◌, length, refl, sym, ap}
 use Rattle.std.proofs.Common.{subst, ◌∙◌}
 use Rattle.std.proofs.Common.{Option, Some, None, Result, Ok, Err, arith}
 use Rattle.std.specs.Prelude.{option_and_then}
@@ -8,7 +8,6 @@ use Rattle.base_items.specs.declared.items.ItemSort.{ItemSort}
 use Rattle.base_items.specs.declared.limits.TheConstants.{MAX_ARCS, MAX_STAMP}
 use Rattle.script_words.specs.declared.commands.Command.{Command}
 use Rattle.script_words.specs.Valid as script
-use Rattle.report_text.specs.declared.faults.Fault.{Fault}
 use Rattle.report_text.specs.declared.faults.StepFault.{StepFault}
 use Rattle.report_text.specs.declared.faults.StepFault.TheVariants as faults
 use Rattle.report_text.specs.declared.replies.Reply.{Reply}
@@ -27,13 +26,12 @@ use Rattle.plain_world.specs.Steps.{Does}
 use Rattle.plain_world.specs.Valid.{IsWorld}
 use Rattle.plain_world.proofs.CommandsKept.{commands_kept}
 use Rattle.plain_world.proofs.StampsTaken.{few_taken}
-use Rattle.plain_machine.specs.Built.{RefusedBy}
 use Rattle.desk_world.specs.declared.world.World as desk
 use Rattle.desk_world.specs.Edits.{Edits, Happened, Stopped, with_labels}
 use Rattle.desk_world.specs.Faults.{Is, Answers}
 use Rattle.desk_world.specs.InStep.{AreInStep, HasStamps, IsInStep}
 use Rattle.desk_world.specs.Plain.{plain_of}
-use Rattle.desk_world.proofs.Demanded.{fault_of, refused}
+use Rattle.desk_world.proofs.Demanded.{fault_of}
 
 -- ---- demands in two parts
 

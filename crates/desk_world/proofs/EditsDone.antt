@@ -1,11 +1,10 @@
 -- A world after an alteration of its digraph, done or refused.
-use Rattle.std.proofs.Common.{◌≡◌, ◌+◌, ◌<◌, ◌≤◌, ◌*◌, ℕ, [], refl, sym, ap, subst, ◌∙◌, length}
+use Rattle.std.proofs.Common.{◌≡◌, ◌+◌, ◌<◌, ◌≤◌, ◌*◌, [], refl, sym, ap, subst, ◌∙◌, length}
 use Rattle.std.proofs.Common.{None, List, ◌∷◌, arith}
 use Rattle.std.specs.Prelude.{option_map}
 use Rattle.base_items.specs.declared.limits.TheConstants.{MAX_ARCS}
 use Rattle.report_text.specs.declared.faults.Fault.TheVariants as faults
 use Rattle.report_text.specs.declared.faults.StepFault.{StepFault}
-use Rattle.report_text.specs.declared.replies.Reply.TheVariants.{Quiet}
 use Rattle.plain_digraph.specs.Digraph.{Digraph}
 use Rattle.plain_digraph.specs.Lists.{AllOf}
 use Rattle.plain_digraph.specs.PlainSteps.{PlainStep, after_steps}
@@ -18,14 +17,13 @@ use Rattle.alter_graph.specs.Room.{HasRoomFor}
 use Rattle.alter_graph.specs.State.{AlterOf, State, state_of}
 use Rattle.alter_graph.specs.Steps as taken
 use Rattle.alter_graph.specs.Steps.{took}
-use Rattle.alter_graph.specs.Verdict.{Guard, guards_of}
+use Rattle.alter_graph.specs.Verdict.{guards_of}
 use Rattle.alter_graph.proofs.Parting.{guards_same}
 use Rattle.plain_world.specs.World as plain
 use Rattle.plain_world.specs.Following.{altered}
 use Rattle.plain_world.specs.Refusals.{veto_of}
 use Rattle.plain_world.proofs.StepsKept.{IsSure}
 use Rattle.desk_world.specs.declared.world.World.{World}
-use Rattle.desk_world.specs.Edits.{Happened, Stopped}
 use Rattle.desk_world.specs.Faults.{Is}
 use Rattle.desk_world.specs.InStep.{AreInStep, IsInStep}
 use Rattle.desk_world.specs.Leaving.{AreAltered}

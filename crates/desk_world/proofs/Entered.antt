@@ -1,16 +1,15 @@
 -- What is known of the entries of labels from the plain world.
-use Rattle.std.proofs.Common.{◌≡◌, ◌≢◌, ℕ, suc, true, false, List, [], ◌∷◌, refl, sym}
+use Rattle.std.proofs.Common.{◌≡◌, ◌≢◌, ℕ, suc, List, [], ◌∷◌, refl, sym}
 use Rattle.std.proofs.Common.{ap, ◌∙◌, subst, Option, Some, None, Contains, arith}
-use Rattle.std.specs.Prelude.{IsTrue, ◌==◌, cond}
+use Rattle.std.specs.Prelude.{IsTrue}
 use Rattle.std.specs.FinMap as fin
-use Rattle.std.proofs.lemmas.Option.{none-some, same_Some}
+use Rattle.std.proofs.lemmas.Option.{none-some}
 use Rattle.base_items.specs.declared.items.ItemSort.{ItemSort}
 use Rattle.plain_digraph.specs.Items.{IsLive}
 use Rattle.plain_digraph.specs.Lists.{AllOf}
 use Rattle.observe_core.specs.Held.{Labels, Entry, entry_id}
 use Rattle.observe_core.specs.Items.{has_id, rises_from}
 use Rattle.observe_core.specs.Seen.{Seen, Watched, IsSound}
-use Rattle.notify_chain.specs.Seats.{SeatSeen, AllSeats, Steady}
 use Rattle.index_maps.specs.RefViews.{HasLabel, IsFreeLabel, with_label}
 use Rattle.alter_graph.proofs.Listing.{contained}
 use Rattle.alter_graph.proofs.Taking.{steady_in}
@@ -24,9 +23,9 @@ use Rattle.desk_world.specs.Claims.{Plays, Sits}
 use Rattle.desk_world.specs.Columns.{labelled}
 use Rattle.desk_world.specs.Entries.{labels_at}
 use Rattle.desk_world.specs.InStep.{AreInStep}
-use Rattle.desk_world.specs.Looks.{seen_at}
 use Rattle.desk_world.specs.Plain.{plain_of, look_of, tables_of}
 use Rattle.desk_world.proofs.AsMade.{as_values}
+use Rattle.desk_world.proofs.Carried.{seen_sound}
 use Rattle.desk_world.proofs.Found.{has_label}
 use Rattle.desk_world.proofs.LiveEntries.{live_entry}
 use Rattle.desk_world.proofs.Labelled.{labels_of_plain, entries_here, labels_rise}
@@ -70,17 +69,6 @@ module _ (es : List Named) (rises : IsTrue (rises_from entry_id 0 es)) where
       all_from (λ (e : Named). e.value ≢ Some name) es (λ e has is.
       unused e.id (has_label e.id name es rises
       (subst (λ v. Contains es (with_label e.id v)) is has)))
-
--- what is seen under a key is sound
-seen_sound : (key : ℕ) (ss : List SeatSeen) (s : Seen) → AllSeats Steady ss
-    → seen_at key ss ≡ Some s → IsSound s
-seen_sound key [] s all at = absurd (none-some s at)
-seen_sound key (t ∷ ss) s all at =
-    let rest = seen_sound key ss s all.1 in
-    elim (t.key == key) as (λ b. cond b (Some t.seen) (seen_at key ss) ≡ Some s → IsSound s) [
-      | true ↦ λ h. subst IsSound (same_Some t.seen s h) all.0.0
-      | false ↦ λ h. rest h
-    ] at
 
 -- ---- the entries of a world
 

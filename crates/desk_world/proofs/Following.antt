@@ -2,8 +2,10 @@
 use Rattle.std.proofs.Common.{◌≡◌, ◌⊎◌, ℕ, Bool, true, false, List, [], ◌∷◌, map, Option}
 use Rattle.std.proofs.Common.{Some}
 use Rattle.std.proofs.Common.{None, refl, sym, ap, ◌∙◌, subst, inl, inr}
-use Rattle.std.specs.Prelude.{option_map, option_and_then}
+use Rattle.std.specs.Prelude.{option_map, option_and_then, IsTrue}
+use Rattle.std.specs.FinMap as fin
 use Rattle.std.specs.List.{cons_option}
+use Rattle.std.specs.Option.{option_map_or}
 use Rattle.std.proofs.lemmas.Bool.{true≢false}
 use Rattle.base_items.specs.declared.items.ItemSort.{ItemSort}
 use Rattle.base_items.specs.declared.items.ItemSort.TheVariants as sorts
@@ -16,7 +18,8 @@ use Rattle.plain_digraph.specs.PlainSteps.{PlainStep, AddNode, AddArc, MoveFrom,
 use Rattle.plain_digraph.specs.PlainSteps.{PlaceBack, EraseArc, EraseNode, ClearArcs, ClearNodes}
 use Rattle.plain_digraph.specs.PlainSteps.{Change, Untouched, change_of, sort_of, after_step}
 use Rattle.plain_digraph.specs.Valid.{IsValid}
-use Rattle.observe_core.specs.Held.{Held, making_of}
+use Rattle.observe_core.specs.Held.{Held, making_of, tie_id}
+use Rattle.observe_core.specs.Items.{rises_from}
 use Rattle.observe_core.specs.Seen.{Seen}
 use Rattle.alter_graph.specs.Chains.{ChainSeen, ChainsSeen, chain_in, seats_in, in_chain}
 use Rattle.alter_graph.specs.State.{State}
@@ -29,29 +32,33 @@ use Rattle.plain_world.specs.Tables.{Name, Named, under, each_changed}
 use Rattle.plain_world.specs.World as plain
 use Rattle.plain_world.specs.Following.{held_after, labels_after, attached_after, guard_after}
 use Rattle.plain_world.specs.Following.{attribute_after, snapshot_after, follow}
+use Rattle.desk_seats.specs.Contents.{ties_held}
 use Rattle.desk_world.specs.declared.tables.MapKind.{MapKind}
 use Rattle.desk_world.specs.declared.tables.MapKind.TheVariants as maps
 use Rattle.desk_world.specs.declared.tables.GuardRow.{GuardRow}
 use Rattle.desk_world.specs.declared.tables.MapRow.{MapRow}
 use Rattle.desk_world.specs.declared.tables.ItemTables.{ItemTables}
 use Rattle.desk_world.specs.declared.tables.AttributeRow.{AttributeRow}
-use Rattle.desk_world.specs.declared.tables.AttributeRow.TheVariants as rows
 use Rattle.desk_world.specs.declared.world.World.{World}
 use Rattle.desk_world.specs.Claims as claims
 use Rattle.desk_world.specs.Claims.{Role, Plays, Sits, has_map_kind, is_map, made_for, role_of}
 use Rattle.desk_world.specs.Columns.{labels_of}
-use Rattle.desk_world.specs.InStep.{Differ, keys_in, IsBare, is_plain}
+use Rattle.desk_world.specs.Derived.{ties_at}
+use Rattle.desk_world.specs.InStep.{Differ, keys_in, IsBare}
 use Rattle.desk_world.specs.Looks.{look_in, looked, seen_at}
 use Rattle.desk_world.specs.Plain.{held_by, map_seen, attached_seen, labels_seen, seat_sort}
 use Rattle.desk_world.specs.Plain.{guard_by, guard_seen, snapshot_seen, attribute_seen, world_seen}
-use Rattle.desk_world.specs.Plain.{ties_seen}
+use Rattle.desk_world.specs.Plain.{ties_seen, tables_of}
 use Rattle.desk_world.proofs.Guarded.{CanBurn, becomes, guard_hears, guard_unheard}
 use Rattle.desk_world.proofs.Hearing.{hears_in, hears_same, hears_other, seats_hear, made_hear}
 use Rattle.desk_world.proofs.Hearing.{maps_hear}
 use Rattle.desk_world.proofs.Noticed.{seen_noticed, map_hears, change_by, held_follows, map_kind}
 use Rattle.desk_world.proofs.Noticed.{labels_follow, heard_by, ValuesFit}
 use Rattle.desk_world.proofs.Remaining.{look_by}
+use Rattle.desk_world.proofs.Seated.{all_so}
 use Rattle.desk_world.proofs.Stood.{Stood}
+use Rattle.desk_world.proofs.TiesAfter.{ties_after, ties_noticed}
+use Rattle.desk_world.proofs.TiesAfter as tied
 
 -- ---- sorts
 
@@ -76,6 +83,32 @@ chain_there sorts.Node sorts.Node f c apart = absurd (apart refl)
 chain_there sorts.Node sorts.Arc f c apart = refl
 chain_there sorts.Arc sorts.Node f c apart = refl
 chain_there sorts.Arc sorts.Arc f c apart = absurd (apart refl)
+
+-- ---- tables
+
+-- what stands in a table follows where what each row leads to does
+each_follows : {X Y : Type 0} (look later : X → Option Y) (change : Y → Option Y)
+    (table : List (Named X))
+    → AllOf (λ e. later e.value ≡ option_and_then change (look e.value)) table
+    → looked later table ≡ each_changed change (looked look table)
+each_follows look later change [] all = refl
+each_follows {X} {Y} look later change (e ∷ es) all =
+    let rest = each_follows look later change es all.1 in
+    let here = all.0 in
+    (λ i. cons_option (option_map (under e.name) (here i)) (rest i))
+    ∙ change_under (look e.value) (looked look es)
+  where
+    change_under : (o : Option Y) (more : List (Named Y))
+        → cons_option (option_map (under e.name) (option_and_then change o))
+        (each_changed change more)
+        ≡ each_changed change (cons_option (option_map (under e.name) o) more)
+    change_under None more = refl
+    change_under (Some y) more = refl
+
+all_of : {X : Type 0} (P : X → Type 0) → ((x : X) → P x) → (table : List (Named X))
+    → AllOf (λ e. P e.value) table
+all_of P each [] = tt
+all_of P each (e ∷ es) = (each e.value, all_of P each es)
 
 -- ---- the change of a step
 
@@ -123,6 +156,12 @@ change_there ClearNodes g sorts.Arc apart = refl
 abbrev pub AreStood : State → Type 0
 AreStood s = (sort : ItemSort) (key : ℕ) (was : Seen) → look_in s.chains sort key ≡ Some was
     → Stood (facts s.graph sort) was
+
+-- who sits there
+seat_of : (role : Role) (o : Option Seen) → Sits role o
+    → (was : Seen) × (o ≡ Some was) × Plays role was
+seat_of role None sits = absurd sits
+seat_of role (Some was) sits = (was, refl, sits)
 
 module _ (step : PlainStep) (s : State) (valid : IsValid s.graph) (can : CanTake step s.graph)
     (then_valid : IsValid (after_step s.graph step)) (stood : AreStood s)
@@ -194,12 +233,21 @@ module _ (step : PlainStep) (s : State) (valid : IsValid s.graph) (can : CanTake
       }
     ]
 
-  -- ---- tables
+    -- and what is read under its key
+    pub reads_follow : (none : Y) (sort : ItemSort) (key : ℕ)
+        → Sits role (look_in s.chains sort key)
+        → option_map_or (λ (x : Seen). read x.held) (look_in d sort key) none
+        ≡ after (change_of s.graph step sort)
+        (option_map_or (λ (x : Seen). read x.held) (look_in s.chains sort key) none)
+    reads_follow none sort key sits =
+        let seat = seat_of role (look_in s.chains sort key) sits in
+        let next = followed sort key seat.0 seat.1 seat.2 in
+        ap (λ o. option_map_or (λ (x : Seen). read x.held) o none) next.seen
+        ∙ next.reads
+        ∙ sym (ap (λ o. after (change_of s.graph step sort)
+        (option_map_or (λ (x : Seen). read x.held) o none)) seat.1)
 
-  seat_of : (role : Role) (o : Option Seen) → Sits role o
-      → (was : Seen) × (o ≡ Some was) × Plays role was
-  seat_of role None sits = absurd sits
-  seat_of role (Some was) sits = (was, refl, sits)
+  -- ---- tables
 
   no_guard_row : (kind : MapKind) → has_map_kind (role_of kind) ≡ true
   no_guard_row maps.Ints = refl
@@ -290,13 +338,10 @@ module _ (step : PlainStep) (s : State) (valid : IsValid s.graph) (can : CanTake
   labels_after_step : (sort : ItemSort) (key : ℕ) → Sits claims.Labels (look_in s.chains sort key)
       → labels_seen (look_in d sort key)
       ≡ labels_after (change_of s.graph step sort) (labels_seen (look_in s.chains sort key))
-  labels_after_step sort key sits =
-      let seat = seat_of claims.Labels (look_in s.chains sort key) sits in
-      let next = followed labels_of labels_after claims.Labels refl (λ labels. refl)
+  labels_after_step =
+      reads_follow labels_of labels_after claims.Labels refl (λ labels. refl)
       (labels_follow n (facts s.graph (sort_of step)) (count_of s.graph (sort_of step)) hears)
-      sort key seat.0 seat.1 seat.2 in
-      ap labels_seen next.seen ∙ next.reads
-      ∙ sym (ap (λ o. labels_after (change_of s.graph step sort) (labels_seen o)) seat.1)
+      fin.empty
 
   attached_follows : (sort : ItemSort) (items : ItemTables)
       → Sits claims.Labels (look_in s.chains sort items.labels.0)
@@ -308,26 +353,37 @@ module _ (step : PlainStep) (s : State) (valid : IsValid s.graph) (can : CanTake
       let held = maps_follow sort items.maps.rows sit in
       λ i. record { labels = named i; maps = held i }
 
-  attributes_follow : (ties later : ItemSort → Option Seen) (table : List (Named AttributeRow))
-      → AllOf (λ e. is_plain e.value ≡ true) table
-      → looked (attribute_seen later) table
-      ≡ each_changed (attribute_after (change_of s.graph step)) (looked (attribute_seen ties) table)
-  attributes_follow ties later [] all = refl
-  attributes_follow ties later (e ∷ es) all =
-      let rest = attributes_follow ties later es all.1 in
-      one e.value all.0 rest
-    where
-      one : (row : AttributeRow) → is_plain row ≡ true
-          → looked (attribute_seen later) es
-          ≡ each_changed (attribute_after (change_of s.graph step))
-          (looked (attribute_seen ties) es)
-          → cons_option (option_map (under e.name) (attribute_seen later row))
-          (looked (attribute_seen later) es)
-          ≡ each_changed (attribute_after (change_of s.graph step))
-          (cons_option (option_map (under e.name) (attribute_seen ties row))
-          (looked (attribute_seen ties) es))
-      one (rows.Plain text) is rest = ap (λ more. under e.name (plain.Plain text) ∷ more) rest
-      one (rows.Tied sort number) is rest = absurd (true≢false (sym is))
+  -- the ties of a sort are left where their items are
+  pub ties_follow : (sort : ItemSort) (key : ℕ) → Sits claims.Ties (look_in s.chains sort key)
+      → ties_at (look_in d sort key)
+      ≡ ties_after (change_of s.graph step sort) (ties_at (look_in s.chains sort key))
+  ties_follow =
+      reads_follow ties_held ties_after claims.Ties refl (λ ties. refl)
+      (λ h made fits. ties_noticed n (count_of s.graph (sort_of step)) h) []
+
+  ties_rise : (sort : ItemSort) (key : ℕ) → Sits claims.Ties (look_in s.chains sort key)
+      → IsTrue (rises_from tie_id 0 (ties_at (look_in s.chains sort key)))
+  ties_rise sort key sits =
+      let seat = seat_of claims.Ties (look_in s.chains sort key) sits in
+      subst (λ o. IsTrue (rises_from tie_id 0 (ties_at o))) (sym seat.1)
+      (stood sort key seat.0 seat.1).rise
+
+  attributes_follow : {O : Type 0} (w : World O) (table : List (Named AttributeRow))
+      → ((sort : ItemSort) → Sits claims.Ties (ties_seen (look_in s.chains) w sort))
+      → looked (attribute_seen (ties_seen (look_in d) w)) table
+      ≡ each_changed (attribute_after (change_of s.graph step))
+      (looked (attribute_seen (ties_seen (look_in s.chains) w)) table)
+  attributes_follow w table sit =
+      each_follows (attribute_seen (ties_seen (look_in s.chains) w))
+      (attribute_seen (ties_seen (look_in d) w)) (attribute_after (change_of s.graph step)) table
+      (all_of (λ row. attribute_seen (ties_seen (look_in d) w) row
+      ≡ option_and_then (attribute_after (change_of s.graph step))
+      (attribute_seen (ties_seen (look_in s.chains) w) row))
+      (tied.row_follows (change_of s.graph step) (ties_seen (look_in s.chains) w)
+      (ties_seen (look_in d) w)
+      (λ sort. ties_follow sort (tables_of w sort).ties.0 (sit sort))
+      (λ sort. ties_rise sort (tables_of w sort).ties.0 (sit sort)))
+      table)
 
   -- ---- guards
 
@@ -385,41 +441,33 @@ module _ (step : PlainStep) (s : State) (valid : IsValid s.graph) (can : CanTake
       → looked (guard_seen (look_in d)) table
       ≡ each_changed (guard_after (change_of s.graph step))
       (looked (guard_seen (look_in s.chains)) table)
-  guards_follow [] burn = refl
-  guards_follow (e ∷ es) burn =
-      let rest = guards_follow es burn.1 in
-      let here = row_guarded e.value.sort e.value.key.0 burn.0 in
-      (λ i. cons_option (option_map (under e.name) (here i)) (rest i))
-      ∙ change_under (guard_seen (look_in s.chains) e.value)
-      (looked (guard_seen (look_in s.chains)) es)
-    where
-      change_under : (o : Option plain.Guard) (more : List (Named plain.Guard))
-          → cons_option (option_map (under e.name)
-          (option_and_then (guard_after (change_of s.graph step)) o))
-          (each_changed (guard_after (change_of s.graph step)) more)
-          ≡ each_changed (guard_after (change_of s.graph step))
-          (cons_option (option_map (under e.name) o) more)
-      change_under None more = refl
-      change_under (Some guard) more = refl
+  guards_follow table burn =
+      each_follows (guard_seen (look_in s.chains)) (guard_seen (look_in d))
+      (guard_after (change_of s.graph step)) table
+      (all_so (λ (e : Named GuardRow). Burns e.value.sort e.value.key.0)
+      (λ (e : Named GuardRow). guard_seen (look_in d) e.value
+      ≡ option_and_then (guard_after (change_of s.graph step))
+      (guard_seen (look_in s.chains) e.value))
+      (λ e burns. row_guarded e.value.sort e.value.key.0 burns) table burn)
 
   -- the world that is seen after the step is the one that follows it
   pub world_follows : {O : Type 0} (w : World O) (pool : List GuardWord) → IsBare w
       → Sits claims.Labels (look_in s.chains sorts.Node w.nodes.labels.0)
       → Sits claims.Labels (look_in s.chains sorts.Arc w.arcs.labels.0)
+      → ((sort : ItemSort) → Sits claims.Ties (ties_seen (look_in s.chains) w sort))
       → AllOf (λ e. SitsRow sorts.Node e.value) w.nodes.maps.rows
       → AllOf (λ e. SitsRow sorts.Arc e.value) w.arcs.maps.rows
       → AllOf (λ e. Burns e.value.sort e.value.key.0) w.guards.rows
       → world_seen (after_step s.graph step) (look_in d) pool w
       ≡ follow (world_seen s.graph (look_in s.chains) pool w) step
-  world_follows w pool bare node_labels arc_labels node_maps arc_maps burn =
+  world_follows w pool bare node_labels arc_labels ties node_maps arc_maps burn =
       let nodes = attached_follows sorts.Node w.nodes node_labels node_maps in
       let arcs = attached_follows sorts.Arc w.arcs arc_labels arc_maps in
       let guards = guards_follow w.guards.rows burn in
       let snaps = subst (λ table. looked (snapshot_seen (after_step s.graph step) (look_in d)) table
       ≡ map (λ e. under e.name (snapshot_after s.graph step e.value))
       (looked (snapshot_seen s.graph (look_in s.chains)) table)) (sym bare.snapshots) refl in
-      let attributes = attributes_follow (ties_seen (look_in s.chains) w) (ties_seen (look_in d) w)
-      w.attributes.rows bare.attributes in
+      let attributes = attributes_follow w w.attributes.rows ties in
       λ i. record (world_seen s.graph (look_in s.chains) pool w) {
         graph = after_step s.graph step;
         nodes = nodes i;

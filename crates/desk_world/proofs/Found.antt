@@ -1,12 +1,12 @@
 -- Labels and values that are found in what a seat holds.
-use Rattle.std.proofs.Common.{◌≡◌, ◌≢◌, ℕ, zero, suc, ◌+◌, ◌≤◌, Bool, true, false, cond, List, []}
+use Rattle.std.proofs.Common.{◌≡◌, ◌≢◌, ℕ, zero, suc, ◌+◌, ◌≤◌, cond, List, []}
 use Rattle.std.proofs.Common.{◌∷◌}
-use Rattle.std.proofs.Common.{Option, Some, None, Contains, refl, sym, ap, ◌∙◌, subst, inl, inr}
+use Rattle.std.proofs.Common.{Option, Some, None, Contains, refl, sym, ap, ◌∙◌, inl, inr}
 use Rattle.std.proofs.Common.{arith}
 use Rattle.std.specs.Prelude.{IsTrue, nat_le}
 use Rattle.std.specs.FinMap as fin
 use Rattle.std.proofs.lemmas.Bool.{cases_eq}
-use Rattle.std.proofs.lemmas.Option.{none-some, same_Some}
+use Rattle.std.proofs.lemmas.Option.{none-some}
 use Rattle.std.proofs.lemmas.Grind.{common_steps}
 use Rattle.plain_digraph.specs.Lists.{AllOf}
 use Rattle.plain_digraph.proofs.Keys.{ties_same, ties_other}
@@ -16,7 +16,7 @@ use Rattle.observe_core.proofs.ItemLemmas.{and_left, and_right, rises-lacks}
 use Rattle.index_maps.specs.RefViews.{HasNoLabel}
 use Rattle.plain_world.specs.Tables.{Name}
 use Rattle.desk_world.specs.Columns.{column, labelled}
-use Rattle.desk_world.proofs.Columns.{value_at, name_at, get_column, get_labelled, ties, past}
+use Rattle.desk_world.proofs.Columns.{value_at, name_at, get_column, get_labelled, past}
 
 -- ---- values
 

@@ -2,7 +2,7 @@
 use Rattle.std.proofs.Common.{◌≡◌, ℕ, Bool, true, false, cond, List, [], ◌∷◌, ◌++◌, Option, Some}
 use Rattle.std.proofs.Common.{None, not}
 use Rattle.std.proofs.Common.{refl, sym, ap, ◌∙◌, subst}
-use Rattle.std.specs.Prelude.{◌==◌, ◌||◌, ◌&&◌}
+use Rattle.std.specs.Prelude.{◌==◌, ◌||◌}
 use Rattle.std.proofs.lemmas.Bool.{eq-eqb, eqb-true, or_left, or_right, true≢false}
 use Rattle.base_items.specs.declared.items.ItemSort.{ItemSort}
 use Rattle.base_items.specs.declared.items.ItemSort.TheVariants.{Node, Arc}

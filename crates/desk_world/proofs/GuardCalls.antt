@@ -136,10 +136,8 @@ module _ {O : Type 0} (watch : O → Watched) where
         bare = record {
           snapshots = still.bare.snapshots;
           views = still.bare.views;
-          node_maps = still.bare.node_maps;
-          arc_maps = still.bare.arc_maps;
-          attributes = still.bare.attributes;
         };
+        derived = still.derived;
       };
       stamps = same.graph;
     }

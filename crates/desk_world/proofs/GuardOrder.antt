@@ -1,17 +1,17 @@
 -- The order of the guards where seats come, go, or are written to.
 use Rattle.std.proofs.Common.{◌≡◌, ℕ, Bool, true, false, cond, not, List, [], ◌∷◌, ◌++◌, map, refl}
-use Rattle.std.proofs.Common.{sym, ap, ◌∙◌, subst, Option, Some, None, ◌⊎◌, inl, inr}
+use Rattle.std.proofs.Common.{sym, ap, ◌∙◌, Some, ◌⊎◌, inl, inr}
 use Rattle.std.specs.Prelude.{◌==◌, ◌&&◌, filter}
-use Rattle.std.proofs.lemmas.Bool.{cases_eq, eq-eqb, ne_eqb, true≢false}
+use Rattle.std.proofs.lemmas.Bool.{cases_eq, eq-eqb, ne_eqb}
 use Rattle.std.proofs.lemmas.List.{append-nil}
-use Rattle.std.proofs.lemmas.Option.{none-some, same_Some}
+use Rattle.std.proofs.lemmas.Option.{same_Some}
 use Rattle.base_items.specs.declared.items.ItemSort.{ItemSort}
 use Rattle.base_items.specs.declared.items.ItemSort.TheVariants as sorts
 use Rattle.plain_digraph.specs.Lists.{AllOf}
 use Rattle.plain_digraph.specs.Rising.{without_item}
 use Rattle.observe_core.specs.Seen.{Seen}
 use Rattle.notify_chain.specs.Seats.{SeatSeen, seat_key, Each, Became, put_seat}
-use Rattle.alter_graph.specs.Chains.{ChainSeen, ChainsSeen, chain_in, in_chain}
+use Rattle.alter_graph.specs.Chains.{ChainsSeen, chain_in, in_chain}
 use Rattle.alter_graph.specs.Attaching.{with_seats, detached}
 use Rattle.alter_graph.specs.Verdict.{is_sort}
 use Rattle.desk_world.specs.declared.tables.MapKind.{MapKind}
@@ -167,7 +167,7 @@ abbrev pub IsLastGuard : List Claim → Claim → List Claim → Type 0
 IsLastGuard front x back = (sort : ItemSort) → guards_claimed sort (front ++ x ∷ back)
     ≡ guards_claimed sort (front ++ back) ++ cond (is_guard_of sort x) (x.key ∷ []) []
 
-no_guard_of : (sort : ItemSort) (x : Claim) → has_map_kind x.role ≡ true
+pub no_guard_of : (sort : ItemSort) (x : Claim) → has_map_kind x.role ≡ true
     → is_guard_of sort x ≡ false
 no_guard_of sort x map_kind =
     ap (λ b. is_sort x.sort sort && not b) map_kind ∙ no_both (is_sort x.sort sort)

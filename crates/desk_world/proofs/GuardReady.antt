@@ -34,10 +34,8 @@ module _ {O : Type 0} (watch : O → Watched) (w : World O) (rows : Rows GuardRo
     bare = record {
       snapshots = in_step.bare.snapshots;
       views = in_step.bare.views;
-      node_maps = in_step.bare.node_maps;
-      arc_maps = in_step.bare.arc_maps;
-      attributes = in_step.bare.attributes;
     };
+    derived = in_step.derived;
   }
 
   pub roomy_plain : plain_of watch (record w { guards = rows }) ≡ plain_of watch w

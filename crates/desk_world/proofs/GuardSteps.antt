@@ -18,7 +18,7 @@ use Rattle.plain_digraph.specs.Items.{facts}
 use Rattle.observe_core.specs.declared.kinds.Veto.TheVariants.{Refused}
 use Rattle.observe_core.specs.Guards.{Law, keeps_law}
 use Rattle.observe_core.specs.Seen.{Seen, Watched}
-use Rattle.observe_core.specs.Told.{armed, built}
+use Rattle.observe_core.specs.Told.{built}
 use Rattle.alter_graph.specs.Attaching.{Attaches}
 use Rattle.alter_graph.specs.State.{state_of}
 use Rattle.plain_world.specs.declared.answers.Answer.TheVariants as answers

@@ -18,8 +18,9 @@ use Rattle.desk_world.specs.declared.world.World.{World}
 use Rattle.desk_world.specs.Claims.{Claim, claims_of, own_claims, map_claim, guard_claim}
 use Rattle.desk_world.specs.Claims.{snap_claims, has_map_kind}
 use Rattle.desk_world.specs.InStep.{AreInStep, AreSeated, AreBoxes, IsBare}
-use Rattle.desk_world.specs.Looks.{Look, looked}
-use Rattle.desk_world.specs.Plain.{world_seen, labels_seen, ties_seen, guard_seen, snapshot_seen}
+use Rattle.desk_world.specs.Looks.{Look, looked, look_in}
+use Rattle.desk_world.specs.Plain.{look_of, world_seen, labels_seen, ties_seen, guard_seen, snapshot_seen}
+use Rattle.desk_world.proofs.Derived.{derived_agrees}
 use Rattle.desk_world.proofs.Relabelled.{Agrees, rows_agree, attributes_agree}
 use Rattle.desk_world.proofs.Seated.{all_left, all_right}
 
@@ -108,8 +109,9 @@ module _ {O : Type 0} (w : World O) where
       ≡ looked (snapshot_seen g look) w.snapshots.rows =
       subst (λ table. looked (snapshot_seen g later) table ≡ looked (snapshot_seen g look) table)
       (sym bare.snapshots) refl in
-      let attributes = attributes_agree look later (ties_seen look w)
-      (ties_seen later (with_guards rows boxes a)) w.attributes.rows bare.attributes in
+      let attributes = attributes_agree (ties_seen look w)
+      (ties_seen later (with_guards rows boxes a)) w.attributes.rows
+      (elim [ sorts.Node ↦ all.1.0 | sorts.Arc ↦ all.1.1.1.0 ]) in
       λ i. record (world_seen g look pool w) {
         nodes = record { labels = node_labels i; maps = nodes i };
         arcs = record { labels = arc_labels i; maps = arcs i };
@@ -123,19 +125,24 @@ module _ {O : Type 0} (w : World O) where
 
 module _ {O : Type 0} (watch : O → Watched) (w : World O) (rows : Rows GuardRow) (boxes : World O)
     (a : AlterOf O) (in_step : AreInStep watch w) (then : graph.IsInStep (state_of watch a))
-    (told_nothing : AreBoxes watch boxes.pool.items) where
-  pub guards_in_step : AreSeated (claims_with w rows.rows) (chains_seen watch a.chains)
-      → AreInStep watch (with_guards w rows boxes a)
-  guards_in_step seated = record {
-    graph = then;
-    seated = subst (λ list. AreSeated list (chains_seen watch a.chains))
-        (sym (claims_now w rows boxes a)) seated;
-    boxes = told_nothing;
-    bare = record {
-      snapshots = in_step.bare.snapshots;
-      views = in_step.bare.views;
-      node_maps = in_step.bare.node_maps;
-      arc_maps = in_step.bare.arc_maps;
-      attributes = in_step.bare.attributes;
-    };
-  }
+    (told_nothing : AreBoxes watch boxes.pool.items)
+    (agree : AllOf (Agrees (look_of watch w) (look_in (chains_seen watch a.chains))) (ahead w))
+  where
+    pub guards_in_step : AreSeated (claims_with w rows.rows) (chains_seen watch a.chains)
+        → AreInStep watch (with_guards w rows boxes a)
+    guards_in_step seated = record {
+      graph = then;
+      seated = subst (λ list. AreSeated list (chains_seen watch a.chains))
+          (sym (claims_now w rows boxes a)) seated;
+      boxes = told_nothing;
+      bare = record {
+        snapshots = in_step.bare.snapshots;
+        views = in_step.bare.views;
+      };
+      derived = derived_agrees (look_of watch w) (look_in (chains_seen watch a.chains)) w.nodes
+          w.arcs w.attributes.rows agree.1.0 agree.1.1.1.0
+          (all_left (Agrees (look_of watch w) (look_in (chains_seen watch a.chains))) (node_maps w)
+          (arc_maps w) agree.1.1.1.1)
+          (all_right (Agrees (look_of watch w) (look_in (chains_seen watch a.chains))) (node_maps w)
+          (arc_maps w) agree.1.1.1.1) in_step.derived;
+    }

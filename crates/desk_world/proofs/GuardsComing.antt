@@ -77,18 +77,20 @@ module _ {O : Type 0} (watch : O → Watched) (w : World O) (rows : Rows GuardRo
   abbrev one : Claim
   one = claim row.sort row.key.0 Guard
 
+  agree : AllOf (Agrees look now) (front ++ back)
+  agree = agree_more row.sort row.key.0 Guard front back came (state_of watch w.graph)
+      (state_of watch a) attaches next_plays seated
+
   pub more_in_step : AreInStep watch (with_guards w rows boxes a)
   more_in_step =
       guards_in_step watch w rows boxes a in_step then told_nothing
+      (all_left (Agrees look now) (ahead w) (map guard_claim table)
+      (all_left (Agrees look now) front back agree))
       (subst (λ list. AreSeated list (chains_seen watch a.chains))
       (sym (ap (claims_with w) put ∙ claims_midst w table (under name row) []))
       (seats_more row.sort row.key.0 Guard front back came (state_of watch w.graph)
       (state_of watch a) attaches next_plays seated
       (guard_comes front one back (after_maps w in_step.bare))))
-
-  agree : AllOf (Agrees look now) (front ++ back)
-  agree = agree_more row.sort row.key.0 Guard front back came (state_of watch w.graph)
-      (state_of watch a) attaches next_plays seated
 
   row_seen : guard_seen now row ≡ Some (guard_by row.sort next)
   row_seen =
@@ -144,14 +146,6 @@ module _ {O : Type 0} (watch : O → Watched) (w : World O) (rows : Rows GuardRo
       (claims_are w ∙ ap (claims_with w) at.is
       ∙ claims_midst w at.front (under name row) at.back) in_step.seated
 
-  pub less_in_step : AreInStep watch (with_guards w rows boxes a)
-  less_in_step =
-      guards_in_step watch w rows boxes a in_step then told_nothing
-      (subst (λ list. AreSeated list (chains_seen watch a.chains))
-      (sym (ap (claims_with w) left ∙ claims_apart w at.front at.back))
-      (subst (AreSeated (prior ++ behind)) (sym gone)
-      (seats_less row.sort row.key.0 Guard prior behind c seated_there)))
-
   abbrev was : Look
   was = look_of watch w
 
@@ -167,6 +161,14 @@ module _ {O : Type 0} (watch : O → Watched) (w : World O) (rows : Rows GuardRo
   before_agree =
       all_left (Agrees was seen_now) (ahead w) (map guard_claim at.front)
       (all_left (Agrees was seen_now) prior behind agree_left)
+
+  pub less_in_step : AreInStep watch (with_guards w rows boxes a)
+  less_in_step =
+      guards_in_step watch w rows boxes a in_step then told_nothing before_agree
+      (subst (λ list. AreSeated list (chains_seen watch a.chains))
+      (sym (ap (claims_with w) left ∙ claims_apart w at.front at.back))
+      (subst (AreSeated (prior ++ behind)) (sym gone)
+      (seats_less row.sort row.key.0 Guard prior behind c seated_there)))
 
   rest_agrees : AllOf (Agrees was seen_now) (map guard_claim rest)
   rest_agrees =

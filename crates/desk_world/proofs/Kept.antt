@@ -22,6 +22,7 @@ use Rattle.plain_world.specs.Following.{follow}
 use Rattle.desk_world.specs.declared.tables.GuardRow.{GuardRow}
 use Rattle.desk_world.specs.declared.world.World.{World}
 use Rattle.desk_world.specs.Claims.{Claim, Sits, Plays, claims_of}
+use Rattle.desk_world.specs.Derived.{AreDerived}
 use Rattle.desk_world.specs.InStep.{AreInStep}
 use Rattle.desk_world.specs.Looks.{Look, look_in}
 use Rattle.desk_world.specs.Plain.{plain_of, world_seen, kinds_of}
@@ -130,12 +131,12 @@ module _ {O : Type 0} (watch : O → Watched) (step : PlainStep) (w : World O) (
 
   pub stays_in_step : AreInStep watch later
   stays_in_step =
-      let remain = (carries_on w step s carries can then_valid).remain in
+      let next = carries_on w step s carries can then_valid in
       let looks = look_alike (claims_of w) d t.chains went.chains in
       record {
         graph = then;
         seated = seated_all (claims_of w) t.chains
-            (remain_alike (claims_of w) d t.chains went.chains remain)
+            (remain_alike (claims_of w) d t.chains went.chains next.remain)
             (all_so (λ x. Sits x.role (look_in s.chains x.sort x.key))
             (λ x. Sits x.role (look_in t.chains x.sort x.key))
             (λ x sits. subst (λ (look : Look). Sits x.role (look x.sort x.key)) (sym looks)
@@ -145,10 +146,9 @@ module _ {O : Type 0} (watch : O → Watched) (step : PlainStep) (w : World O) (
         bare = record {
           snapshots = in_step.bare.snapshots;
           views = in_step.bare.views;
-          node_maps = in_step.bare.node_maps;
-          arc_maps = in_step.bare.arc_maps;
-          attributes = in_step.bare.attributes;
         };
+        derived = subst (λ look. AreDerived look w.nodes w.arcs w.attributes.rows) (sym looks)
+            next.derived;
       }
 
   pub plain_follows : plain_of watch later ≡ follow (plain_of watch w) step

@@ -1,8 +1,8 @@
 -- The items of a world by their labels.
-use Rattle.std.proofs.Common.{◌≡◌, ℕ, Bool, true, false, List, [], ◌∷◌, refl, sym, ap, subst}
+use Rattle.std.proofs.Common.{◌≡◌, ℕ, [], sym, ap, subst}
 use Rattle.std.proofs.Common.{Option}
-use Rattle.std.proofs.Common.{Some, None, ◌∙◌, Contains}
-use Rattle.std.specs.Prelude.{IsTrue, option_map, unwrap_or, MatchOption, IsSome}
+use Rattle.std.proofs.Common.{Some, None, ◌∙◌}
+use Rattle.std.specs.Prelude.{IsTrue, unwrap_or, MatchOption, IsSome}
 use Rattle.std.specs.Option.{option_map_or}
 use Rattle.std.specs.FinMap as fin
 use Rattle.std.proofs.lemmas.Bool.{true≢false}
@@ -10,7 +10,7 @@ use Rattle.std.proofs.lemmas.Option.{none-some}
 use Rattle.base_items.specs.declared.items.ItemSort.{ItemSort}
 use Rattle.base_items.specs.declared.items.ItemSort.TheVariants as sorts
 use Rattle.plain_digraph.specs.Items.{IsLive}
-use Rattle.observe_core.specs.Held.{Held, Values, Labels, OfValues, making_of, entry_id}
+use Rattle.observe_core.specs.Held.{Held, Labels, OfValues, making_of, entry_id}
 use Rattle.observe_core.specs.Held.{IsHeldSound}
 use Rattle.observe_core.specs.Items.{rises_from}
 use Rattle.observe_core.specs.Seen.{Seen, Watched}
@@ -24,7 +24,6 @@ use Rattle.plain_world.specs.Valid.{IsWorld, IsAttached}
 use Rattle.plain_world.specs.Demands.{item_named}
 use Rattle.plain_world.proofs.Named.{items_named, names_free}
 use Rattle.desk_seats.specs.Contents.{labels_in, among, labels_among}
-use Rattle.desk_seats.specs.Forms.{HasForm, labels_form}
 use Rattle.desk_world.specs.declared.tables.ItemTables.{ItemTables}
 use Rattle.desk_world.specs.declared.world.World.{World}
 use Rattle.desk_world.specs.Claims as claims

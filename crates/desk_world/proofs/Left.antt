@@ -22,6 +22,7 @@ use Rattle.desk_world.specs.declared.tables.MapRow.{MapRow}
 use Rattle.desk_world.specs.declared.world.World.{World}
 use Rattle.desk_world.specs.Claims.{claims_of, guard_claim, map_claim}
 use Rattle.desk_world.specs.Claims.{own_claims, snap_claims}
+use Rattle.desk_world.specs.Derived.{AreDerived}
 use Rattle.desk_world.specs.Entries.{labels_at, room_for_labels}
 use Rattle.desk_world.specs.InStep.{AreInStep, AreSeated}
 use Rattle.desk_world.specs.Leaving.{AreAltered, still_claimed, with_none_left, is_still}
@@ -153,10 +154,9 @@ module _ {O : Type 0} (watch : O → Watched) (w : World O) (a : AlterOf O) (gua
       bare = record {
         snapshots = altered.bare.snapshots;
         views = altered.bare.views;
-        node_maps = altered.bare.node_maps;
-        arc_maps = altered.bare.arc_maps;
-        attributes = altered.bare.attributes;
       };
+      derived = subst (λ look. AreDerived look w.nodes w.arcs w.attributes.rows) (sym same_look)
+          altered.derived;
     }
 
     -- nothing else is seen than before

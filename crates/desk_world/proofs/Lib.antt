@@ -12,6 +12,7 @@ pub mod Writing
 pub mod Adding
 pub mod AsMade
 pub mod Noticed
+pub mod TiesAfter
 pub mod Heard
 pub mod Remaining
 pub mod StillClaimed
@@ -19,6 +20,7 @@ pub mod Stood
 pub mod Guarded
 pub mod Hearing
 pub mod Following
+pub mod StillDerived
 pub mod Takes
 pub mod Carried
 pub mod Altered
@@ -54,15 +56,29 @@ pub mod DocLinks
 pub mod Saved
 pub mod SavedAttributes
 pub mod Claimed
+pub mod Putting
 pub mod NamedRows
+pub mod Derived
 pub mod MapTables
 pub mod BuiltMaps
+pub mod Indexed
 pub mod MapsComing
+pub mod IndexFilled
+pub mod IndexMade
 pub mod MapsWritten
+pub mod Reroled
+pub mod Retyped
+pub mod IndexesWritten
+pub mod SeatWrites
 pub mod MapCalls
+pub mod MapsMade
+pub mod DerivedMaps
 pub mod MapCommands
 pub mod Spelled
 pub mod MapWrites
+pub mod WriteCalls
+pub mod Respelled
+pub mod RetypeSteps
 pub mod MapRefusals
 pub mod RowTold
 pub mod Readied
@@ -89,3 +105,22 @@ pub mod SplitDone
 pub mod GuardReturns
 pub mod GuardLines
 pub mod GuardCommands
+pub mod ByItem
+pub mod WholeMaps
+pub mod TrueItems
+pub mod DegreeTold
+pub mod SeatsHold
+pub mod DerivedTold
+pub mod ReadAnswers
+pub mod MapReaders
+pub mod SeatsAsked
+mod Replaced
+mod TieLists
+mod TieRows
+mod TiesWritten
+mod TiesFound
+mod TieSteps
+mod AttributesFound
+mod TieCalls
+mod Renamed
+mod AttributeCommands

@@ -2,15 +2,17 @@
 use Rattle.std.proofs.Common.{◌≡◌, false, refl, sym, ap, subst, Some, None, ◌∙◌}
 use Rattle.std.specs.Prelude.{Result, Ok, Err, OnErr}
 use Rattle.base_items.specs.declared.items.ItemSort.{ItemSort}
-use Rattle.script_words.specs.declared.commands.MapType.{MapType}
-use Rattle.observe_core.specs.Seen.{Watched}
-use Rattle.alter_graph.specs.Attaching.{Attaches, detached}
+use Rattle.observe_core.specs.Seen.{Seen, Watched}
+use Rattle.alter_graph.specs.Attaching.{detached}
 use Rattle.alter_graph.specs.Chains.{chains_seen}
 use Rattle.alter_graph.specs.State as graph
 use Rattle.alter_graph.specs.State.{AlterOf, state_of, IsSame}
 use Rattle.plain_world.specs.Tables.{Name, entry, has_entry, with_entry, without_entry}
+use Rattle.plain_world.specs.Demands as demands
+use Rattle.plain_world.specs.Refusals.{breach}
+use Rattle.plain_world.specs.World as plain
 use Rattle.plain_world.specs.World.{attached}
-use Rattle.plain_world.specs.Effects.{with_maps, with_map, new_map}
+use Rattle.plain_world.specs.Effects.{with_maps, with_map}
 use Rattle.plain_world.specs.Valid.{NamesDiffer}
 use Rattle.desk_names.specs.Rows.{Rows}
 use Rattle.desk_world.specs.declared.tables.MapRow.{MapRow}
@@ -18,8 +20,11 @@ use Rattle.desk_world.specs.declared.world.World.{World}
 use Rattle.desk_world.specs.Claims.{Plays, role_of}
 use Rattle.desk_world.specs.InStep.{AreInStep}
 use Rattle.desk_world.specs.MapTables.{with_table}
-use Rattle.desk_world.specs.Plain.{plain_of, tables_of}
-use Rattle.desk_world.specs.Values.{kind_for}
+use Rattle.desk_world.specs.Derived.{IsIndexed}
+use Rattle.desk_world.specs.Looks.{look_in}
+use Rattle.desk_world.specs.Plain.{plain_of, tables_of, seat_sort, held_by}
+use Rattle.desk_world.specs.Seating.{Comes}
+use Rattle.desk_world.proofs.Indexed.{unread_rows}
 use Rattle.desk_world.proofs.MapTables.{with_rows, table_first, table_twice, pool_stays}
 use Rattle.desk_world.proofs.MapTables.{same_in_step, same_plain}
 use Rattle.desk_world.proofs.MapsComing.{more_in_step, map_came, none_in_step, none_gone}
@@ -44,11 +49,10 @@ module _ {O : Type 0} (watch : O → Watched) (sort : ItemSort) where
     pub graph : new.graph.graph.graph ≡ old.graph.graph.graph
     pub pool : new.pool ≡ old.pool
 
-  -- a new map of the type came
-  pub record Came (name : Name) (type : MapType) (old new : World O) : Type 0 where
+  -- a new map came, which has this
+  pub record Came (name : Name) (held : plain.Held) (old new : World O) : Type 0 where
     pub in_step : AreInStep watch new
-    pub made : plain_of watch new
-        ≡ with_map (plain_of watch old) sort name (new_map (plain_of watch old) sort type)
+    pub made : plain_of watch new ≡ with_map (plain_of watch old) sort name held
     pub graph : new.graph.graph.graph ≡ old.graph.graph.graph
     pub pool : new.pool ≡ old.pool
 
@@ -91,38 +95,46 @@ module _ {O : Type 0} (watch : O → Watched) (sort : ItemSort) where
     still_new name new =
         ap (λ table. has_entry table name) rows ∙ sym (map_there watch old in_step sort name) ∙ new
 
-    module _ (a : AlterOf O) (last : World O) (name : Name) (row : MapRow) (type : MapType)
-        (came : Watched)
+    module _ (a : AlterOf O) (last : World O) (name : Name) (row : MapRow) (next : Seen)
         (put : last ≡ with_table (record first { graph = a }) sort (rows_of last sort))
         (more : (rows_of last sort).rows ≡ with_entry room.rows name row)
-        (kind : row.kind ≡ kind_for type)
-        (attaches : Attaches sort row.key.0 came (state_of watch first.graph) (state_of watch a))
-        (then : graph.IsInStep (state_of watch a))
-        (plays : Plays (role_of (kind_for type)) came.seen) where
+        (comes : Comes (seat_sort sort row.kind) row.key.0 next
+        (chains_seen watch first.graph.chains) (chains_seen watch a.chains))
+        (same_graph : a.graph.graph ≡ first.graph.graph.graph)
+        (then : graph.IsInStep (state_of watch a)) (plays : Plays (role_of row.kind) next)
+        (indexed : IsIndexed (look_in (chains_seen watch a.chains) sort) (rows_of old sort).rows
+        row.kind row.key.0) where
       now : last ≡ with_rows old sort (rows_of last sort) a
       now =
           put
           ∙ ap (λ (w : World O). with_table (record w { graph = a }) sort (rows_of last sort)) is
           ∙ table_twice old sort room (rows_of last sort) a
 
-      from : Attaches sort row.key.0 came (state_of watch old.graph) (state_of watch a)
-      from = subst (λ (w : World O). Attaches sort row.key.0 came (state_of watch w.graph)
-          (state_of watch a)) (is ∙ table_first old sort room) attaches
+      before : first.graph ≡ old.graph
+      before = ap (λ (w : World O). w.graph) (is ∙ table_first old sort room)
+
+      from : Comes (seat_sort sort row.kind) row.key.0 next (chains_seen watch old.graph.chains)
+          (chains_seen watch a.chains)
+      from = subst (λ (b : AlterOf O). Comes (seat_sort sort row.kind) row.key.0 next
+          (chains_seen watch b.chains) (chains_seen watch a.chains)) before comes
+
+      same : a.graph.graph ≡ old.graph.graph.graph
+      same = same_graph ∙ ap (λ (b : AlterOf O). b.graph.graph) before
 
       all : (rows_of last sort).rows ≡ with_entry (rows_of old sort).rows name row
       all = more ∙ ap (λ table. with_entry table name row) rows
 
-      pub came_whole : Came name type old last
+      pub came_whole : Came name (held_by row.kind next.held) old last
       came_whole =
           let table = rows_of last sort in
           record {
             in_step = subst (AreInStep watch) (sym now)
-                (more_in_step watch old sort table a name row type came in_step kind all from then
-                plays);
+                (more_in_step watch old sort table a name row next in_step all from same then plays
+                indexed);
             made = ap (plain_of watch) now
-                ∙ map_came watch old sort table a name row type came in_step kind all from then
-                plays;
-            graph = ap (λ (w : World O). w.graph.graph.graph) now ∙ from.graph;
+                ∙ map_came watch old sort table a name row next in_step all from same then plays
+                indexed;
+            graph = ap (λ (w : World O). w.graph.graph.graph) now ∙ same;
             pool = ap (λ (w : World O). w.pool) now ∙ pool_stays old sort table a;
           }
 
@@ -141,20 +153,24 @@ module _ {O : Type 0} (watch : O → Watched) (sort : ItemSort) where
     })
 
     pub row_went : (a : AlterOf O) (row : MapRow) → NamesDiffer (rows_of old sort).rows
+        → breach (plain_of watch old) (demands.NoneReads sort name) ≡ None
         → entry (rows_of old sort).rows name ≡ Some row → a.graph ≡ first.graph.graph
         → chains_seen watch a.chains
-        ≡ detached sort row.key.0 (chains_seen watch first.graph.chains)
+        ≡ detached (seat_sort sort row.kind) row.key.0 (chains_seen watch first.graph.chains)
         → (graph.IsInStep (state_of watch first.graph) → graph.IsInStep (state_of watch a))
         → Went name old (record first { graph = a })
-    row_went a row differ found same_graph detaches then =
+    row_went a row differ nothing_reads found same_graph detaches then =
         let was : first.graph ≡ old.graph =
         ap (λ (w : World O). w.graph) (is ∙ table_first old sort left) in
         let at = stands (rows_of old sort).rows name row differ found in
         let gone = detaches
-        ∙ ap (λ (b : AlterOf O). detached sort row.key.0 (chains_seen watch b.chains)) was in
+        ∙ ap (λ (b : AlterOf O). detached (seat_sort sort row.kind) row.key.0
+        (chains_seen watch b.chains)) was in
+        let unread = unread_rows watch old in_step sort name nothing_reads in
         let same = same_graph ∙ ap (λ (b : AlterOf O). b.graph) was in
         let after = then (subst (λ b. graph.IsInStep (state_of watch b)) (sym was) in_step.graph) in
         subst (λ (w : World O). Went name old (record w { graph = a })) (sym is) (record {
-          in_step = less_in_step watch old sort left a name in_step less row at gone same after;
-          gone = map_gone watch old sort left a name in_step less row at gone same after;
+          in_step = less_in_step watch old sort left a name in_step less row at unread gone same
+              after;
+          gone = map_gone watch old sort left a name in_step less row at unread gone same after;
         })

@@ -2,12 +2,10 @@
 use Rattle.std.proofs.Common.{◌≡◌, ℕ, ◌+◌, ◌≤◌, ◌^◌, true, false, cond, not, List, []}
 use Rattle.std.proofs.Common.{◌∷◌}
 use Rattle.std.proofs.Common.{map, refl, sym, ap, subst, Option, Some, None, ◌∙◌, All, arith}
-use Rattle.std.specs.Prelude.{option_map, option_and_then, unwrap_or, find, pos}
+use Rattle.std.specs.Prelude.{option_and_then, unwrap_or, pos}
 use Rattle.std.specs.FinMap as fin
-use Rattle.std.specs.List.{cons_option}
 use Rattle.std.specs.Option.{option_or}
 use Rattle.std.specs.Str.{bytes_eq}
-use Rattle.std.proofs.lemmas.Bool.{true≢false}
 use Rattle.std.proofs.lemmas.List.Elements.{All-head, All-tail}
 use Rattle.std.proofs.lemmas.Option.{none-some, same_Some}
 use Rattle.base_items.specs.declared.items.ItemSort.{ItemSort}
@@ -19,9 +17,7 @@ use Rattle.script_words.specs.declared.commands.MapType.{MapType}
 use Rattle.script_words.specs.Slots.{is_dash}
 use Rattle.report_text.specs.declared.faults.Fault.TheVariants as faults
 use Rattle.report_text.specs.declared.replies.Reply.TheVariants.{Quiet}
-use Rattle.plain_digraph.specs.Lists.{AllOf}
-use Rattle.observe_core.specs.Seen.{Seen, Watched}
-use Rattle.plain_world.specs.Tables.{Name, Named, under, is_named, entry, oldest, with_change}
+use Rattle.plain_world.specs.Tables.{Name, Named, under, is_named, entry, with_change}
 use Rattle.plain_world.specs.Tables.{without_entry}
 use Rattle.plain_world.specs.World as plain
 use Rattle.plain_world.specs.World.{attached, Held}
@@ -29,28 +25,18 @@ use Rattle.plain_world.specs.Altering.{item_at}
 use Rattle.plain_world.specs.Demands as demand
 use Rattle.plain_world.specs.Demands.{item_named}
 use Rattle.plain_world.specs.Effects.{with_map, with_maps, with_map_changed, new_map}
-use Rattle.plain_world.specs.Refusals.{breach, unless, is_index_of}
+use Rattle.plain_world.specs.Refusals.{breach, unless}
 use Rattle.plain_world.specs.Steps.{Step}
 use Rattle.plain_world.specs.Valid.{IsWorld}
 use Rattle.plain_world.specs.Values.{type_of, spells, written_at}
-use Rattle.plain_world.specs.Views.{map_of, reads}
+use Rattle.plain_world.specs.Views.{map_of}
 use Rattle.plain_world.specs.declared.answers.Answer.TheVariants.{Answered}
 use Rattle.plain_world.proofs.CommandsKept.{commands_kept}
 use Rattle.plain_world.proofs.Named.{attached_ok}
 use Rattle.plain_world.proofs.TableChanges.{own_entry}
-use Rattle.desk_world.specs.declared.tables.MapKind.{MapKind}
-use Rattle.desk_world.specs.declared.tables.MapKind.TheVariants as maps
-use Rattle.desk_world.specs.declared.tables.MapRow.{MapRow}
 use Rattle.desk_world.specs.declared.values.Value.{Value}
 use Rattle.desk_world.specs.declared.values.Value.TheVariants as values
-use Rattle.desk_world.specs.declared.world.World.{World}
-use Rattle.desk_world.specs.InStep.{AreInStep, has_values}
-use Rattle.desk_world.specs.Looks.{Look, looked}
-use Rattle.desk_world.specs.Plain.{plain_of, look_of, tables_of, map_seen, held_by, view_of}
-use Rattle.desk_world.specs.Plain.{seat_sort}
 use Rattle.desk_world.specs.Values.{HasType, Spells, type_for, put_at, new_map_command}
-use Rattle.desk_world.proofs.MapTables.{maps_plain}
-use Rattle.desk_world.proofs.MapsFound.{rows_bare}
 
 -- the stamps that are left are enough for a command that takes none
 pub left : (world : plain.World) → world.graph.stamps + 2 ^ 24 ≤ MAX_STAMP
@@ -80,7 +66,7 @@ module _ (world later : plain.World) (name : Name) (type : MapType) where
 -- ---- a value that is written
 
 -- changes that are alike where the name stands
-change_alike : {X : Type 0} (table : List (Named X)) (name : Name) (f g : X → X) (x : X)
+pub change_alike : {X : Type 0} (table : List (Named X)) (name : Name) (f g : X → X) (x : X)
     → All (λ e. is_named name e ≡ true → entry table name ≡ Some e.value) table
     → entry table name ≡ Some x → f x ≡ g x
     → with_change table name f ≡ with_change table name g
@@ -105,7 +91,7 @@ change_alike {X} table name f g x own found same = each table own
         ] refl
 
 -- the text of a value is written as the value
-same_written : (value : Value) (text : List ℕ) (id : ℕ) (held : Held)
+pub same_written : (value : Value) (text : List ℕ) (id : ℕ) (held : Held)
     → type_of held ≡ Some (type_for value) → Spells text value
     → put_at value id held ≡ written_at held id text
 same_written (values.Int v) text id (plain.Ints m) is spelled =
@@ -169,66 +155,15 @@ module _ (world : plain.World) (sort : ItemSort) (map item text : Name) (type : 
 
 -- ---- a map that is dropped
 
--- a map of values is no index
-values_apart : (name : Name) (kind : MapKind) (s : Seen) → has_values kind ≡ true
-    → is_index_of name (held_by kind s.held) ≡ false
-values_apart name maps.Ints s is = refl
-values_apart name maps.Bools s is = refl
-values_apart name maps.Texts s is = refl
-values_apart name (maps.Degrees way) s is = refl
-values_apart name (maps.Trues map) s is = absurd (true≢false (sym is))
-
-no_index : (look : Look) (sort : ItemSort) (name : Name) (rows : List (Named MapRow))
-    → AllOf (λ (e : Named MapRow). has_values e.value.kind ≡ true) rows
-    → oldest (is_index_of name) (looked (map_seen look sort) rows) ≡ None
-no_index look sort name rows all = ap (option_map (λ (e : Named Held). e.name)) (each rows all)
-  where
-    none : (e : Named MapRow) (o : Option Seen) (more : List (Named Held))
-        → has_values e.value.kind ≡ true
-        → find (λ (f : Named Held). is_index_of name f.value) more ≡ None
-        → find (λ (f : Named Held). is_index_of name f.value)
-        (cons_option (option_map (under e.name)
-        (option_map (λ (s : Seen). held_by e.value.kind s.held) o)) more) ≡ None
-    none e None more is rest = rest
-    none e (Some s) more is rest =
-        ap (λ b. cond b (Some (under e.name (held_by e.value.kind s.held)))
-        (find (λ (f : Named Held). is_index_of name f.value) more))
-        (values_apart name e.value.kind s is)
-        ∙ rest
-
-    each : (rows : List (Named MapRow))
-        → AllOf (λ (e : Named MapRow). has_values e.value.kind ≡ true) rows
-        → find (λ (f : Named Held). is_index_of name f.value)
-        (looked (map_seen look sort) rows) ≡ None
-    each [] all = refl
-    each (e ∷ rows) all =
-        none e (look (seat_sort sort e.value.kind) e.value.key.0)
-        (looked (map_seen look sort) rows) all.0 (each rows all.1)
-
-module _ {O : Type 0} (watch : O → Watched) (w : World O) (in_step : AreInStep watch w)
-    (sort : ItemSort) (name : Name) where
-  abbrev world : plain.World
-  world = plain_of watch w
-
-  -- nothing reads a map
-  pub none_reads : breach world (demand.NoneReads sort name) ≡ None
-  none_reads =
-      let views = ap (map (λ e. under e.name (view_of e.value))) in_step.bare.views in
-      ap (option_map faults.InUse)
-      ((λ i. option_or (oldest (λ view. reads sort name view.layer) (views i))
-      (oldest (is_index_of name) (attached world sort).maps))
-      ∙ ap (oldest (is_index_of name)) (maps_plain watch w sort)
-      ∙ no_index (look_of watch w) sort name (tables_of w sort).maps.rows
-      (rows_bare watch w in_step sort))
-
-  pub drop_step : (later : plain.World)
-      → breach world (demand.There (demand.Maps sort) name) ≡ None
+module _ (world later : plain.World) (sort : ItemSort) (name : Name) where
+  pub drop_step : breach world (demand.There (demand.Maps sort) name) ≡ None
       → bytes_eq name label_column ≡ false
+      → breach world (demand.NoneReads sort name) ≡ None
       → later ≡ with_maps world sort (without_entry (attached world sort).maps name)
       → Step world (command.DropMap sort name) (Answered Quiet) later
-  drop_step later there apart gone = (
+  drop_step there apart unread gone = (
     (λ i. option_or (option_or (there i)
         (option_or (unless (not (apart i)) (faults.WrongType name))
-        (option_or (none_reads i) None))) None),
+        (option_or (unread i) None))) None),
     (refl, gone),
   )

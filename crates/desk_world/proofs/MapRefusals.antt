@@ -61,6 +61,17 @@ module _ (world : World) (sort : ItemSort) (name : Name) (fault : StepFault) whe
       (not_met world (demand.IsNoLabel name) (demand.NoneReads sort name ∷ []) fault
       (subst (λ b. Is (unless (not b) (faults.WrongType name)) fault) (sym is) wrong)))
 
+  pub drop_used : breach world (demand.There (demand.Maps sort) name) ≡ None
+      → bytes_eq name label_column ≡ false → Is (breach world (demand.NoneReads sort name)) fault
+      → RefusedBy world (command.DropMap sort name) world fault
+  drop_used there apart used =
+      refused world (command.DropMap sort name) fault
+      (met world (demand.There (demand.Maps sort) name)
+      (demand.IsNoLabel name ∷ demand.NoneReads sort name ∷ []) fault there
+      (met world (demand.IsNoLabel name) (demand.NoneReads sort name ∷ []) fault
+      (ap (λ b. unless (not b) (faults.WrongType name)) apart)
+      (not_met world (demand.NoneReads sort name) [] fault used)))
+
 module _ (world : World) (sort : ItemSort) (map item text : Name) (fault : StepFault) where
   abbrev set : Command
   set = command.Set sort map item text

@@ -1,5 +1,5 @@
 -- A world with another table of maps.
-use Rattle.std.proofs.Common.{◌≡◌, true, List, [], ◌∷◌, ◌++◌, map, refl, sym, ap}
+use Rattle.std.proofs.Common.{◌≡◌, List, [], ◌∷◌, ◌++◌, map, refl, sym, ap}
 use Rattle.std.proofs.Common.{subst}
 use Rattle.std.proofs.Common.{◌∙◌}
 use Rattle.std.specs.List.{flat_map}
@@ -22,13 +22,14 @@ use Rattle.desk_world.specs.declared.tables.MapRow.{MapRow}
 use Rattle.desk_world.specs.declared.world.World.{World}
 use Rattle.desk_world.specs.Claims.{Claim, claims_of, own_claims, map_claim, guard_claim}
 use Rattle.desk_world.specs.Claims.{snap_claims}
-use Rattle.desk_world.specs.InStep.{AreInStep, AreSeated, IsBare, has_values}
+use Rattle.desk_world.specs.InStep.{AreInStep, AreSeated, IsBare}
+use Rattle.desk_world.specs.Derived.{AreDerived}
 use Rattle.desk_world.specs.Looks.{Look, looked, look_in}
 use Rattle.desk_world.specs.MapTables.{with_table}
 use Rattle.desk_world.specs.Plain.{world_seen, map_seen, labels_seen, ties_seen}
 use Rattle.desk_world.specs.Plain.{guard_seen, snapshot_seen, tables_of, plain_of, look_of}
 use Rattle.desk_world.specs.Plain.{kinds_of}
-use Rattle.desk_world.proofs.MapsFound.{rows_bare}
+use Rattle.desk_world.proofs.Derived.{derived_rows}
 use Rattle.desk_world.proofs.Relabelled.{Agrees, rows_agree, guards_agree, attributes_agree}
 use Rattle.desk_world.proofs.Seated.{all_left, all_right}
 
@@ -66,7 +67,7 @@ module _ {O : Type 0} where
 
   -- ---- its claims
 
-  abbrev other_claims : World O → List Claim
+  abbrev pub other_claims : World O → List Claim
   other_claims w = map guard_claim w.guards.rows ++ flat_map snap_claims w.snapshots.rows
 
   -- those before the maps of the sort, and those behind
@@ -149,8 +150,9 @@ module _ {O : Type 0} where
         (other_claims w) all.1.1.1.1) in
         let rest = others (all_right (Agrees look later)
         (map (map_claim sorts.Arc) w.arcs.maps.rows) (other_claims w) all.1.1.1.1) in
-        let attributes = attributes_agree look later (ties_seen look w)
-        (ties_seen later (with_rows w sorts.Node rows a)) w.attributes.rows bare.attributes in
+        let attributes = attributes_agree (ties_seen look w)
+        (ties_seen later (with_rows w sorts.Node rows a)) w.attributes.rows
+        (elim [ sorts.Node ↦ all.1.0 | sorts.Arc ↦ all.1.1.1.0 ]) in
         λ i. record (world_seen g look pool w) {
           nodes = record {
             labels = labels i;
@@ -169,8 +171,9 @@ module _ {O : Type 0} where
         (other_claims w) all.1.1.1.1) in
         let rest = others (all_right (Agrees look later)
         (map (map_claim sorts.Node) w.nodes.maps.rows) (other_claims w) all.1.1.1.1) in
-        let attributes = attributes_agree look later (ties_seen look w)
-        (ties_seen later (with_rows w sorts.Arc rows a)) w.attributes.rows bare.attributes in
+        let attributes = attributes_agree (ties_seen look w)
+        (ties_seen later (with_rows w sorts.Arc rows a)) w.attributes.rows
+        (elim [ sorts.Node ↦ all.1.0 | sorts.Arc ↦ all.1.1.1.0 ]) in
         λ i. record (world_seen g look pool w) {
           nodes = record { labels = node_labels i; maps = node_maps i };
           arcs = record {
@@ -199,34 +202,32 @@ module _ {O : Type 0} (watch : O → Watched) (w : World O) where
 
 module _ {O : Type 0} (watch : O → Watched) (w : World O) (rows : Rows MapRow) (a : AlterOf O)
     (in_step : AreInStep watch w) (then : graph.IsInStep (state_of watch a))
-    (all : AllOf (λ (e : Named MapRow). has_values e.value.kind ≡ true) rows.rows) where
-  pub rows_in_step : (sort : ItemSort)
-      → AreSeated (claims_with w sort rows.rows) (chains_seen watch a.chains)
-      → AreInStep watch (with_rows w sort rows a)
-  rows_in_step sorts.Node seated = record {
-    graph = then;
-    seated = seated;
-    boxes = in_step.boxes;
-    bare = record {
-      snapshots = in_step.bare.snapshots;
-      views = in_step.bare.views;
-      node_maps = all;
-      arc_maps = in_step.bare.arc_maps;
-      attributes = in_step.bare.attributes;
-    };
-  }
-  rows_in_step sorts.Arc seated = record {
-    graph = then;
-    seated = seated;
-    boxes = in_step.boxes;
-    bare = record {
-      snapshots = in_step.bare.snapshots;
-      views = in_step.bare.views;
-      node_maps = in_step.bare.node_maps;
-      arc_maps = all;
-      attributes = in_step.bare.attributes;
-    };
-  }
+  where
+    pub rows_in_step : (sort : ItemSort)
+        → AreDerived (look_in (chains_seen watch a.chains)) (with_table w sort rows).nodes
+        (with_table w sort rows).arcs w.attributes.rows
+        → AreSeated (claims_with w sort rows.rows) (chains_seen watch a.chains)
+        → AreInStep watch (with_rows w sort rows a)
+    rows_in_step sorts.Node derived seated = record {
+      graph = then;
+      seated = seated;
+      boxes = in_step.boxes;
+      bare = record {
+        snapshots = in_step.bare.snapshots;
+        views = in_step.bare.views;
+      };
+      derived = derived;
+    }
+    rows_in_step sorts.Arc derived seated = record {
+      graph = then;
+      seated = seated;
+      boxes = in_step.boxes;
+      bare = record {
+        snapshots = in_step.bare.snapshots;
+        views = in_step.bare.views;
+      };
+      derived = derived;
+    }
 
 -- ---- the same rows, with more room
 
@@ -244,10 +245,8 @@ module _ {O : Type 0} (watch : O → Watched) (w : World O) (sort : ItemSort) (r
     (same : rows.rows ≡ (tables_of w sort).maps.rows) where
   pub same_in_step : AreInStep watch (with_rows w sort rows w.graph)
   same_in_step =
-      rows_in_step watch w rows w.graph in_step in_step.graph
-      (subst (AllOf (λ (e : Named MapRow). has_values e.value.kind ≡ true)) (sym same)
-      (rows_bare watch w in_step sort))
-      sort
+      rows_in_step watch w rows w.graph in_step in_step.graph sort
+      (derived_rows (look_of watch w) w sort rows same in_step.derived)
       (subst (λ list. AreSeated list (chains_seen watch w.graph.chains))
       (claims_are w sort ∙ ap (claims_with w sort) (sym same)) in_step.seated)
 

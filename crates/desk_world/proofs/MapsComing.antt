@@ -1,10 +1,10 @@
 -- A world to which a map came, and one from which a map went.
-use Rattle.std.proofs.Common.{◌≡◌, true, List, [], ◌∷◌, ◌++◌, map, refl, sym, ap}
-use Rattle.std.proofs.Common.{subst}
-use Rattle.std.proofs.Common.{Some, None, ◌∙◌}
+use Rattle.std.proofs.Common.{◌≡◌, true, List, [], ◌∷◌, ◌++◌, map, refl, sym, ap, subst, Some, None}
+use Rattle.std.proofs.Common.{◌∙◌}
 use Rattle.std.specs.Prelude.{option_map}
 use Rattle.std.proofs.lemmas.List.{append-nil, map-append}
 use Rattle.base_items.specs.declared.items.ItemSort.{ItemSort}
+use Rattle.base_items.specs.declared.items.ItemSort.TheVariants as sorts
 use Rattle.base_items.specs.declared.items.Fact.{Fact}
 use Rattle.script_words.specs.declared.commands.MapType.{MapType}
 use Rattle.script_words.specs.declared.commands.MapType.TheVariants as types
@@ -16,7 +16,7 @@ use Rattle.observe_core.specs.Held as held
 use Rattle.observe_core.specs.Held.{Held, making_of}
 use Rattle.observe_core.specs.Seen.{Seen, Watched}
 use Rattle.observe_core.specs.Told.{built, held_built}
-use Rattle.alter_graph.specs.Attaching.{Attaches, detached}
+use Rattle.alter_graph.specs.Attaching.{detached}
 use Rattle.alter_graph.specs.Chains.{ChainsSeen, chains_seen}
 use Rattle.alter_graph.specs.State as graph
 use Rattle.alter_graph.specs.State.{AlterOf, state_of}
@@ -28,21 +28,23 @@ use Rattle.desk_names.specs.Rows.{Rows}
 use Rattle.desk_world.specs.declared.tables.MapRow.{MapRow}
 use Rattle.desk_world.specs.declared.world.World.{World}
 use Rattle.desk_world.specs.Claims.{Claim, Role, Plays, role_of, claim, claims_of, map_claim}
+use Rattle.desk_world.specs.Derived.{AreDerived, AreIndexed, IsIndexed}
 use Rattle.desk_world.specs.InStep.{AreInStep, AreSeated, has_values}
 use Rattle.desk_world.specs.Looks.{Look, look_in, looked}
 use Rattle.desk_world.specs.Plain.{plain_of, look_of, kinds_of, tables_of, map_seen, held_by}
-use Rattle.desk_world.specs.Plain.{world_seen}
+use Rattle.desk_world.specs.Plain.{world_seen, seat_sort}
+use Rattle.desk_world.specs.Seating.{Comes}
 use Rattle.desk_world.specs.Values.{kind_for}
 use Rattle.desk_world.proofs.AsMade.{as_values}
 use Rattle.desk_world.proofs.BuiltMaps.{built_map, values_type}
 use Rattle.desk_world.proofs.Changing.{looked_more, looked_less}
-use Rattle.desk_world.proofs.Claimed.{look_came, agree_more, seats_more, agree_less, seats_less}
+use Rattle.desk_world.proofs.Claimed.{look_comes, agree_comes, seats_comes, agree_less, seats_less}
+use Rattle.desk_world.proofs.Derived.{indexes_agree}
 use Rattle.desk_world.proofs.GuardOrder.{map_comes, map_role}
-use Rattle.desk_world.proofs.MapTables.{with_rows, before, behind, claims_with}
-use Rattle.desk_world.proofs.MapTables.{claims_are, claims_midst, claims_apart, maps_seen}
-use Rattle.desk_world.proofs.MapTables.{rows_in_step, plain_later, maps_plain}
-use Rattle.desk_world.proofs.MapTables.{same_in_step, same_plain, own_maps}
-use Rattle.desk_world.proofs.MapsFound.{own_sort, rows_bare}
+use Rattle.desk_world.proofs.MapTables.{with_rows, before, behind, claims_with, claims_are}
+use Rattle.desk_world.proofs.MapTables.{claims_midst, claims_apart, maps_seen, rows_in_step}
+use Rattle.desk_world.proofs.MapTables.{plain_later, maps_plain, same_in_step, same_plain, own_maps}
+use Rattle.desk_world.proofs.Indexed.{IsUnread, indexed_more, indexed_less, derived_with}
 use Rattle.desk_world.proofs.NamedRows.{Stands, all_stay, none_stands}
 use Rattle.desk_world.proofs.Relabelled.{Agrees, rows_agree}
 use Rattle.desk_world.proofs.Seated.{all_left, all_right, all_both}
@@ -71,7 +73,7 @@ built_plays role all s plays = record {
   kind = plays.kind;
 }
 
-held_new : (type : MapType) (w : plain.World) (sort : ItemSort) (s : Seen)
+pub held_new : (type : MapType) (w : plain.World) (sort : ItemSort) (s : Seen)
     → digraph.IsValid w.graph → Plays (role_of (kind_for type)) s
     → held_by (kind_for type) (built (facts w.graph sort) s).held ≡ new_map w sort type
 held_new type w sort s valid plays = by type plays
@@ -95,30 +97,41 @@ all_but_midst P xs ys zs all =
     all_both P xs zs (all_left P xs ys (all_left P (xs ++ ys) zs all))
     (all_right P (xs ++ ys) zs all)
 
+-- the indexes among the maps of the sort
+pub own_indexes : {O : Type 0} (w : World O) (sort : ItemSort) (look : Look)
+    → AreDerived look w.nodes w.arcs w.attributes.rows
+    → AreIndexed (look sort) (tables_of w sort).maps.rows
+own_indexes w sorts.Node look derived = derived.node_indexes
+own_indexes w sorts.Arc look derived = derived.arc_indexes
+
 -- ---- a map came
 
 module _ {O : Type 0} (watch : O → Watched) (w : World O) (sort : ItemSort) (rows : Rows MapRow)
-    (a : AlterOf O) (name : Name) (row : MapRow) (type : MapType) (came : Watched)
-    (in_step : AreInStep watch w) (kind : row.kind ≡ kind_for type)
+    (a : AlterOf O) (name : Name) (row : MapRow) (next : Seen) (in_step : AreInStep watch w)
     (put : rows.rows ≡ with_entry (tables_of w sort).maps.rows name row)
-    (attaches : Attaches sort row.key.0 came (state_of watch w.graph) (state_of watch a))
-    (then : graph.IsInStep (state_of watch a))
-    (plays : Plays (role_of (kind_for type)) came.seen) where
+    (comes : Comes (seat_sort sort row.kind) row.key.0 next (chains_seen watch w.graph.chains)
+    (chains_seen watch a.chains))
+    (same_graph : a.graph.graph ≡ w.graph.graph.graph) (then : graph.IsInStep (state_of watch a))
+    (plays : Plays (role_of row.kind) next)
+    (indexed : IsIndexed (look_in (chains_seen watch a.chains) sort)
+    (tables_of w sort).maps.rows row.kind row.key.0) where
+  abbrev earlier : ChainsSeen
+  earlier = chains_seen watch w.graph.chains
+
+  abbrev since : ChainsSeen
+  since = chains_seen watch a.chains
+
   abbrev g : Digraph
   g = w.graph.graph.graph
 
   abbrev table : List (Named MapRow)
   table = (tables_of w sort).maps.rows
 
-  abbrev next : Seen
-  next = built (facts g sort) came.seen
+  abbrev chain : ItemSort
+  chain = seat_sort sort row.kind
 
-  values : has_values row.kind ≡ true
-  values = ap has_values kind ∙ for_values type
-
-  next_plays : Plays (role_of row.kind) next
-  next_plays = built_plays (role_of row.kind) (facts g sort) came.seen
-      (subst (λ k. Plays (role_of k) came.seen) (sym kind) plays)
+  abbrev role : Role
+  role = role_of row.kind
 
   abbrev front : List Claim
   front = before w sort ++ map (map_claim sort) table
@@ -131,9 +144,8 @@ module _ {O : Type 0} (watch : O → Watched) (w : World O) (sort : ItemSort) (r
       claims_are w sort ∙ ap (claims_with w sort) (sym (append-nil table))
       ∙ claims_apart w sort table []
 
-  seated : AreSeated (front ++ back) (chains_seen watch w.graph.chains)
-  seated =
-      subst (λ list. AreSeated list (chains_seen watch w.graph.chains)) were in_step.seated
+  seated : AreSeated (front ++ back) earlier
+  seated = subst (λ list. AreSeated list earlier) were in_step.seated
 
   abbrev later : World O
   later = with_rows w sort rows a
@@ -142,52 +154,48 @@ module _ {O : Type 0} (watch : O → Watched) (w : World O) (sort : ItemSort) (r
   look = look_of watch w
 
   abbrev now : Look
-  now = look_in (chains_seen watch a.chains)
-
-  same_claim : map_claim sort (under name row) ≡ claim sort row.key.0 (role_of row.kind)
-  same_claim = ap (λ s. claim s row.key.0 (role_of row.kind)) (own_sort sort row.kind values)
-
-  pub more_in_step : AreInStep watch later
-  more_in_step =
-      rows_in_step watch w rows a in_step then
-      (subst (AllOf (λ (e : Named MapRow). has_values e.value.kind ≡ true)) (sym put)
-      (all_both (λ (e : Named MapRow). has_values e.value.kind ≡ true) table (under name row ∷ [])
-      (rows_bare watch w in_step sort) (values, tt)))
-      sort
-      (subst (λ list. AreSeated list (chains_seen watch a.chains))
-      (sym (ap (claims_with w sort) put ∙ claims_midst w sort table (under name row) []
-      ∙ ap (λ x. front ++ x ∷ back) same_claim))
-      (seats_more sort row.key.0 (role_of row.kind) front back came (state_of watch w.graph)
-      (state_of watch a) attaches next_plays seated
-      (map_comes front (claim sort row.key.0 (role_of row.kind)) back (map_role row.kind))))
+  now = look_in since
 
   agree : AllOf (Agrees look now) (front ++ back)
-  agree = agree_more sort row.key.0 (role_of row.kind) front back came (state_of watch w.graph)
-      (state_of watch a) attaches next_plays seated
+  agree = agree_comes chain row.key.0 role front back next earlier since comes plays seated
+
+  others_show : AllOf (Agrees look now) (claims_with w sort [])
+  others_show =
+      all_but_midst (Agrees look now) (before w sort) (map (map_claim sort) table) back agree
 
   table_agrees : AllOf (Agrees look now) (map (map_claim sort) table)
   table_agrees = all_right (Agrees look now) (before w sort) (map (map_claim sort) table)
       (all_left (Agrees look now) front back agree)
 
-  row_seen : map_seen now sort row ≡ Some (new_map (plain_of watch w) sort type)
+  indexes_are : AreIndexed (look sort) table
+  indexes_are = own_indexes w sort look in_step.derived
+
+  pub more_in_step : AreInStep watch later
+  more_in_step =
+      rows_in_step watch w rows a in_step then sort
+      (derived_with look now w sort rows others_show
+      (subst (AreIndexed (now sort)) (sym put)
+      (indexed_more (now sort) table name row
+      (indexes_agree look now sort table table_agrees indexes_are) indexed))
+      in_step.derived)
+      (subst (λ list. AreSeated list since)
+      (sym (ap (claims_with w sort) put ∙ claims_midst w sort table (under name row) []))
+      (seats_comes chain row.key.0 role front back next earlier since comes plays seated
+      (map_comes front (claim chain row.key.0 role) back (map_role row.kind))))
+
+  row_seen : map_seen now sort row ≡ Some (held_by row.kind next.held)
   row_seen =
-      ap (λ s. option_map (λ (x : Seen). held_by row.kind x.held) (now s row.key.0))
-      (own_sort sort row.kind values)
-      ∙ ap (option_map (λ (x : Seen). held_by row.kind x.held))
-      (look_came sort row.key.0 (role_of row.kind) front back came (state_of watch w.graph)
-      (state_of watch a) attaches next_plays)
-      ∙ ap (λ k. Some (held_by k next.held)) kind
-      ∙ ap Some (held_new type (plain_of watch w) sort came.seen in_step.graph.valid plays)
+      ap (option_map (λ (x : Seen). held_by row.kind x.held))
+      (look_comes chain row.key.0 role front back next earlier since comes plays)
 
   pub map_came : plain_of watch later
-      ≡ with_map (plain_of watch w) sort name (new_map (plain_of watch w) sort type)
+      ≡ with_map (plain_of watch w) sort name (held_by row.kind next.held)
   map_came =
-      let new = new_map (plain_of watch w) sort type in
+      let new = held_by row.kind next.held in
       let pool = kinds_of watch w.pool.items in
       plain_later watch w sort rows a
-      ∙ (λ i. world_seen (attaches.graph i) now pool later)
-      ∙ maps_seen w in_step.bare g look now pool a sort rows
-      (all_but_midst (Agrees look now) (before w sort) (map (map_claim sort) table) back agree)
+      ∙ (λ i. world_seen (same_graph i) now pool later)
+      ∙ maps_seen w in_step.bare g look now pool a sort rows others_show
       ∙ ap (with_maps (plain_of watch w) sort)
       (ap (looked (map_seen now sort)) put
       ∙ looked_more (map_seen now sort) table name row new row_seen
@@ -234,7 +242,8 @@ module _ {O : Type 0} (watch : O → Watched) (w : World O) (sort : ItemSort) (r
 
   -- the seat of its row went
   module _ (row : MapRow) (at : Stands all_rows name row)
-      (gone : chains_seen watch a.chains ≡ detached sort row.key.0 c)
+      (unread : IsUnread name all_rows)
+      (gone : chains_seen watch a.chains ≡ detached (seat_sort sort row.kind) row.key.0 c)
       (same_graph : a.graph ≡ w.graph.graph) (then : graph.IsInStep (state_of watch a)) where
     abbrev rest : List (Named MapRow)
     rest = at.front ++ at.back
@@ -245,39 +254,17 @@ module _ {O : Type 0} (watch : O → Watched) (w : World O) (sort : ItemSort) (r
     abbrev after : List Claim
     after = map (map_claim sort) at.back ++ behind w sort
 
-    abbrev HasValues : Named MapRow → Type 0
-    HasValues e = has_values e.value.kind ≡ true
-
-    values_all : AllOf HasValues (at.front ++ under name row ∷ at.back)
-    values_all = subst (AllOf HasValues) at.is (rows_bare watch w in_step sort)
-
-    values_behind : AllOf HasValues (under name row ∷ at.back)
-    values_behind = all_right HasValues at.front (under name row ∷ at.back) values_all
+    abbrev chain_of : ItemSort
+    chain_of = seat_sort sort row.kind
 
     left : rows.rows ≡ rest
     left = less ∙ at.less
 
-    own : map_claim sort (under name row) ≡ claim sort row.key.0 (role_of row.kind)
-    own = ap (λ s. claim s row.key.0 (role_of row.kind)) (own_sort sort row.kind values_behind.0)
-
-    seated_there : AreSeated (ahead ++ claim sort row.key.0 (role_of row.kind) ∷ after) c
+    seated_there : AreSeated (ahead ++ map_claim sort (under name row) ∷ after) c
     seated_there =
         subst (λ list. AreSeated list c)
         (claims_are w sort ∙ ap (claims_with w sort) at.is
-        ∙ claims_midst w sort at.front (under name row) at.back
-        ∙ ap (λ x. ahead ++ x ∷ after) own) in_step.seated
-
-    pub less_in_step : AreInStep watch (with_rows w sort rows a)
-    less_in_step =
-        rows_in_step watch w rows a in_step then
-        (subst (AllOf HasValues) (sym left)
-        (all_both HasValues at.front at.back
-        (all_left HasValues at.front (under name row ∷ at.back) values_all) values_behind.1))
-        sort
-        (subst (λ list. AreSeated list (chains_seen watch a.chains))
-        (sym (ap (claims_with w sort) left ∙ claims_apart w sort at.front at.back))
-        (subst (AreSeated (ahead ++ after)) (sym gone)
-        (seats_less sort row.key.0 (role_of row.kind) ahead after c seated_there)))
+        ∙ claims_midst w sort at.front (under name row) at.back) in_step.seated
 
     abbrev seen_now : Look
     seen_now = look_in (chains_seen watch a.chains)
@@ -285,7 +272,7 @@ module _ {O : Type 0} (watch : O → Watched) (w : World O) (sort : ItemSort) (r
     agree_left : AllOf (Agrees was seen_now) (ahead ++ after)
     agree_left =
         subst (λ x. AllOf (Agrees was (look_in x)) (ahead ++ after)) (sym gone)
-        (agree_less sort row.key.0 (role_of row.kind) ahead after c seated_there)
+        (agree_less chain_of row.key.0 (role_of row.kind) ahead after c seated_there)
 
     rest_agrees : AllOf (Agrees was seen_now) (map (map_claim sort) rest)
     rest_agrees =
@@ -304,6 +291,20 @@ module _ {O : Type 0} (watch : O → Watched) (w : World O) (sort : ItemSort) (r
         (all_left (Agrees was seen_now) ahead after agree_left))
         (all_right (Agrees was seen_now) (map (map_claim sort) at.back) (behind w sort)
         (all_right (Agrees was seen_now) ahead after agree_left))
+
+    pub less_in_step : AreInStep watch (with_rows w sort rows a)
+    less_in_step =
+        rows_in_step watch w rows a in_step then sort
+        (derived_with was seen_now w sort rows others_agree
+        (subst (AreIndexed (seen_now sort)) (sym left)
+        (indexes_agree was seen_now sort rest rest_agrees
+        (indexed_less (was sort) all_rows name row at unread
+        (own_indexes w sort was in_step.derived))))
+        in_step.derived)
+        (subst (λ list. AreSeated list (chains_seen watch a.chains))
+        (sym (ap (claims_with w sort) left ∙ claims_apart w sort at.front at.back))
+        (subst (AreSeated (ahead ++ after)) (sym gone)
+        (seats_less chain_of row.key.0 (role_of row.kind) ahead after c seated_there)))
 
     pub map_gone : plain_of watch (with_rows w sort rows a)
         ≡ with_maps (plain_of watch w) sort

@@ -9,8 +9,6 @@ use Rattle.std.proofs.lemmas.Option.{none-some, same_Some}
 use Rattle.base_items.specs.declared.items.ItemSort.{ItemSort}
 use Rattle.base_items.specs.declared.items.ItemSort.TheVariants as sorts
 use Rattle.lgf_file.specs.Documents.{label as label_column}
-use Rattle.script_words.specs.declared.commands.MapType.{MapType}
-use Rattle.script_words.specs.declared.commands.MapType.TheVariants as types
 use Rattle.plain_digraph.specs.Lists.{AllOf}
 use Rattle.observe_core.specs.Held as held
 use Rattle.observe_core.specs.Seen.{Seen, Watched}
@@ -29,6 +27,7 @@ use Rattle.desk_world.specs.Claims.{Plays, Sits, role_of}
 use Rattle.desk_world.specs.InStep.{AreInStep, has_values}
 use Rattle.desk_world.specs.Looks.{Look, looked, look_in}
 use Rattle.desk_world.specs.Plain.{plain_of, look_of, tables_of, map_seen, seat_sort, held_by}
+pub use Rattle.desk_world.specs.Values.{type_by}
 use Rattle.desk_world.proofs.Seated.{maps_sit, all_so}
 
 -- ---- tables
@@ -104,14 +103,6 @@ leads_held look sort row leads =
 
 -- ---- the types of maps
 
--- the type of a map's values, if it has values of its own
-abbrev pub type_by : MapKind → Option MapType
-type_by maps.Ints = Some types.Ints
-type_by maps.Bools = Some types.Bools
-type_by maps.Texts = Some types.Texts
-type_by (maps.Degrees way) = None
-type_by (maps.Trues map) = None
-
 pub type_held : (kind : MapKind) (h : held.Held) → type_of (held_by kind h) ≡ type_by kind
 type_held maps.Ints h = refl
 type_held maps.Bools h = refl
@@ -170,12 +161,6 @@ module _ {O : Type 0} (watch : O → Watched) (w : World O) (in_step : AreInStep
   rows_named sorts.Arc =
       looked_names (map_seen (look_of watch w) sorts.Arc) w.arcs.maps.rows (rows_seen sorts.Arc)
 
-  -- each row is of a map of values
-  pub rows_bare : (sort : ItemSort)
-      → AllOf (λ (e : Named MapRow). has_values e.value.kind ≡ true) (tables_of w sort).maps.rows
-  rows_bare sorts.Node = in_step.bare.node_maps
-  rows_bare sorts.Arc = in_step.bare.arc_maps
-
   -- the map of a name is what its row leads to
   pub map_entry : (sort : ItemSort) (name : Name)
       → map_of (plain_of watch w) sort name
@@ -190,7 +175,6 @@ module _ {O : Type 0} (watch : O → Watched) (w : World O) (in_step : AreInStep
   -- what is known of the row that stands under a name
   pub record HasRow (sort : ItemSort) (name : Name) (row : MapRow) : Type 0 where
     pub leads : Leads (look_of watch w) sort row
-    pub values : has_values row.kind ≡ true
     pub held : map_of (plain_of watch w) sort name ≡ Some (held_by row.kind leads.seen.held)
 
   pub map_found : (sort : ItemSort) (name : Name) (row : MapRow)
@@ -200,8 +184,6 @@ module _ {O : Type 0} (watch : O → Watched) (w : World O) (in_step : AreInStep
       name row (rows_lead sort) found in
       record {
         leads = leads;
-        values = of_entry (λ row. has_values row.kind ≡ true) (tables_of w sort).maps.rows name row
-            (rows_bare sort) found;
         held =
             map_entry sort name
             ∙ ap (option_and_then (map_seen (look_of watch w) sort)) found

@@ -55,7 +55,7 @@ module _ {O : Type 0} (watch : O → Watched) (w : World O) (sort : ItemSort) (r
   abbrev pub IsRow : Type 0
   IsRow = Contains (map (λ (e : Named MapRow). e.value) (tables_of w sort).maps.rows) row
 
-  row_leads : AreInStep watch w → IsRow → Leads (look_of watch w) sort row
+  pub row_leads : AreInStep watch w → IsRow → Leads (look_of watch w) sort row
   row_leads in_step listed =
       of_value (λ row. Leads (look_of watch w) sort row) (tables_of w sort).maps.rows row
       (rows_lead watch w in_step sort) listed

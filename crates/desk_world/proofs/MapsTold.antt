@@ -60,23 +60,38 @@ module _ {O : Type 0} (watch : O → Watched) (w : World O) (sort : ItemSort) (n
         ap (λ b. cond b (label_of world sort id) (value_of (map_of world sort name))) is
         ∙ ap value_of (map_missing watch w in_step sort name found)
 
-    -- else it is the text that the map of the row has
-    pub reply_row : AreInStep watch w → bytes_eq name label_column ≡ false → (row : MapRow)
+    -- else it is what is told of the map of the row
+    pub reply_told : AreInStep watch w → bytes_eq name label_column ≡ false → (row : MapRow)
         → entry (tables_of w sort).maps.rows name ≡ Some row → (text : List ℕ)
-        → option_map (λ (h : plain.Held). text_at h id) (map_seen (look_of watch w) sort row)
+        → option_map (λ h. told_at world sort h id) (map_seen (look_of watch w) sort row)
         ≡ Some text
         → text ≡ value_reply world sort name id
-    reply_row in_step is row found text told =
+    reply_told in_step is row found text told =
         let has = map_found watch w in_step sort name row found in
         let held : plain.Held = held_by row.kind has.leads.seen.held in
-        let same : text_at held id ≡ text =
-        same_Some (text_at held id) text
-        (sym (ap (option_map (λ (h : plain.Held). text_at h id))
+        let same : told_at world sort held id ≡ text =
+        same_Some (told_at world sort held id) text
+        (sym (ap (option_map (λ h. told_at world sort h id))
         (leads_held (look_of watch w) sort row has.leads)) ∙ told) in
         sym (ap (λ b. cond b (label_of world sort id) (value_of (map_of world sort name))) is
         ∙ ap value_of has.held
-        ∙ told_text world sort row.kind has.leads.seen.held id has.values
         ∙ same)
+
+    -- which is its text, if it is a map of values
+    pub reply_row : AreInStep watch w → bytes_eq name label_column ≡ false → (row : MapRow)
+        → entry (tables_of w sort).maps.rows name ≡ Some row → has_values row.kind ≡ true
+        → (text : List ℕ)
+        → option_map (λ (h : plain.Held). text_at h id) (map_seen (look_of watch w) sort row)
+        ≡ Some text
+        → text ≡ value_reply world sort name id
+    reply_row in_step is row found values text told =
+        let has = map_found watch w in_step sort name row found in
+        let held = leads_held (look_of watch w) sort row has.leads in
+        reply_told in_step is row found text
+        (ap (option_map (λ h. told_at world sort h id)) held
+        ∙ ap Some (told_text world sort row.kind has.leads.seen.held id values)
+        ∙ sym (ap (option_map (λ (h : plain.Held). text_at h id)) held)
+        ∙ told)
 
 -- the answer of `get`
 pub told_value : (world : plain.World) (sort : ItemSort) (name item : Name) (id : ℕ)

@@ -1,78 +1,78 @@
 -- A world in which a value of a map was written.
-use Rattle.std.proofs.Common.{◌≡◌, ℕ, true, cond, List, [], ◌∷◌, ◌++◌, map, refl, sym}
-use Rattle.std.proofs.Common.{ap}
-use Rattle.std.proofs.Common.{subst, Some, ◌∙◌}
-use Rattle.std.specs.Prelude.{IsTrue, option_map}
+use Rattle.std.proofs.Common.{◌≡◌, ℕ, Bool, true, false, cond, List, ◌∷◌, ◌++◌, map, refl, sym, ap}
+use Rattle.std.proofs.Common.{[]}
+use Rattle.std.proofs.Common.{subst, Option, Some, ◌∙◌}
+use Rattle.std.specs.Prelude.{IsTrue, option_map, ◌&&◌}
+use Rattle.std.specs.Str.{bytes_eq}
 use Rattle.std.proofs.lemmas.Slice.Eq.{bytes_eq-Decides}
 use Rattle.base_items.specs.declared.items.ItemSort.{ItemSort}
-use Rattle.plain_digraph.specs.Items.{IsLive, facts}
+use Rattle.plain_digraph.specs.Items.{IsLive}
 use Rattle.plain_digraph.specs.Lists.{AllOf}
+use Rattle.plain_digraph.specs.Rising.{swapped}
 use Rattle.observe_core.specs.Held as held
-use Rattle.observe_core.specs.Held.{Held, making_of, entry_id}
+use Rattle.observe_core.specs.Held.{Entry, Held, making_of, entry_id}
 use Rattle.observe_core.specs.Items.{has_id}
 use Rattle.observe_core.specs.Seen.{Seen, Watched}
 use Rattle.columns.specs.Views.{entry as with_value}
-use Rattle.notify_chain.specs.Seats.{SeatSeen, seat_from}
 use Rattle.alter_graph.specs.Chains.{ChainsSeen, chains_seen}
-use Rattle.alter_graph.specs.Lending.{Writes, MayWrite, graph_with}
 use Rattle.alter_graph.specs.Snaps.{IsHalf, half_of}
-use Rattle.alter_graph.specs.State.{AlterOf}
-use Rattle.plain_world.specs.Tables.{Name, Named, under, with_change}
+use Rattle.alter_graph.specs.State as states
+use Rattle.alter_graph.specs.State.{AlterOf, state_of}
+use Rattle.plain_world.specs.Tables.{Name, Named, under}
 use Rattle.plain_world.specs.World as plain
-use Rattle.plain_world.specs.Effects.{with_maps, with_map_changed}
-use Rattle.desk_seats.specs.Contents.{holding, StillFits, among, ints_among, bools_among}
-use Rattle.desk_seats.specs.Contents.{texts_among}
+use Rattle.desk_seats.specs.Contents.{holding, among, ints_among, bools_among, texts_among}
+use Rattle.desk_world.specs.declared.tables.MapKind.{MapKind}
+use Rattle.desk_world.specs.declared.tables.MapKind.TheVariants as maps
 use Rattle.desk_world.specs.declared.tables.MapRow.{MapRow}
 use Rattle.desk_world.specs.declared.values.Value.{Value}
 use Rattle.desk_world.specs.declared.values.Value.TheVariants as values
 use Rattle.desk_world.specs.declared.world.World.{World}
-use Rattle.desk_world.specs.Claims as claims
-use Rattle.desk_world.specs.Claims.{Claim, Role, Plays, role_of, claim, claims_of, map_claim}
+use Rattle.desk_world.specs.Claims.{Claim, Role, Plays, role_of, claims_of, map_claim, ClaimsDiffer}
+use Rattle.desk_world.specs.Derived.{bools_seen, trues_seen}
+use Rattle.desk_world.specs.Indexes.{is_index_kind}
 use Rattle.desk_world.specs.InStep.{AreInStep, AreSeated, has_values}
 use Rattle.desk_world.specs.Looks.{Look, look_in}
-use Rattle.desk_world.specs.Plain.{plain_of, look_of, kinds_of, tables_of, map_seen, held_by}
+use Rattle.desk_world.specs.Plain.{look_of, tables_of, map_seen, held_by, seat_sort}
+use Rattle.desk_world.specs.Seating.{Puts}
 use Rattle.desk_world.specs.Values.{HasItem, kind_for, type_for, put_at, held_with}
 use Rattle.desk_world.proofs.AsMade.{as_values}
 use Rattle.desk_world.proofs.BuiltMaps.{values_type}
-use Rattle.desk_world.proofs.Changing.{looked_changed, ChangesAt}
 use Rattle.desk_world.proofs.Claimed.{apart_all}
 use Rattle.desk_world.proofs.Columns.{column_swapped}
-use Rattle.desk_world.proofs.LiveEntries.{live_entry}
-use Rattle.desk_world.proofs.MapTables.{same_rows_world, before, behind, claims_with}
-use Rattle.desk_world.proofs.MapTables.{claims_are, claims_midst, maps_seen, maps_plain}
-use Rattle.desk_world.proofs.MapTables.{plain_later}
+use Rattle.desk_world.proofs.LiveEntries.{entry_in}
+use Rattle.desk_world.proofs.MapTables.{before, behind, claims_with, claims_are, claims_midst}
 use Rattle.desk_world.proofs.MapsComing.{for_values}
 use Rattle.desk_world.proofs.MapsFound.{own_sort}
 use Rattle.desk_world.proofs.NamedRows.{Stands, IsOther}
+use Rattle.desk_world.proofs.Putting.{seen_put, all_elsewhere, seated_put}
 use Rattle.desk_world.proofs.Relabelled.{Agrees}
-use Rattle.desk_world.proofs.Seated.{all_left, all_right, all_both, all_so}
-use Rattle.desk_world.proofs.Written.{IsElsewhere, reseated, look_put, look_elsewhere, seats_stay}
-use Rattle.desk_world.proofs.Written.{rewrites, no_half}
+use Rattle.desk_world.proofs.Seated.{all_left, all_right, all_both}
+use Rattle.desk_world.proofs.Written.{no_half}
 
 -- ---- what a map of a value's type holds
 
 abbrev pub own_role : Value → Role
 own_role value = role_of (kind_for (type_for value))
 
-made_values : (value : Value) (s : Seen) → Plays (own_role value) s
+pub made_values : (value : Value) (s : Seen) → Plays (own_role value) s
     → making_of s.held ≡ held.OfValues (values_type (type_for value))
 made_values (values.Int v) s plays = plays.making
 made_values (values.Bool v) s plays = plays.making
 made_values (values.Text v) s plays = plays.making
 
-made_with : (value : Value) (id : ℕ) (s : Seen)
+pub made_with : (value : Value) (id : ℕ) (s : Seen)
     → making_of (held_with value id s) ≡ held.OfValues (values_type (type_for value))
 made_with (values.Int v) id s = refl
 made_with (values.Bool v) id s = refl
 made_with (values.Text v) id s = refl
 
-no_snapshot : (value : Value) (s : Seen) → Plays (own_role value) s → IsHalf (half_of s) → ⊥
+pub no_snapshot : (value : Value) (s : Seen) → Plays (own_role value) s → IsHalf (half_of s) → ⊥
 no_snapshot (values.Int v) s plays = no_half 0 s plays.form
 no_snapshot (values.Bool v) s plays = no_half 1 s plays.form
 no_snapshot (values.Text v) s plays = no_half 2 s plays.form
 
 -- a write puts the value to the map
-held_put : (value : Value) (id : ℕ) (s : Seen) → HasItem value id s
+pub held_put : (value : Value) (id : ℕ) (s : Seen) → HasItem value id s
     → held_by (kind_for (type_for value)) (held_with value id s)
     ≡ put_at value id (held_by (kind_for (type_for value)) s.held)
 held_put (values.Int v) id s at =
@@ -82,177 +82,277 @@ held_put (values.Bool v) id s at =
 held_put (values.Text v) id s at =
     ap plain.Texts (column_swapped (with_value id v) (among texts_among s.held) at)
 
--- it has a value for each live item
-pub item_held : {O : Type 0} (watch : O → Watched) (w : World O) → AreInStep watch w
-    → (sort : ItemSort) (key : ℕ) (s : Seen) → look_of watch w sort key ≡ Some s
-    → (value : Value) (id : ℕ) → Plays (own_role value) s → IsLive w.graph.graph.graph sort id
+-- a seat has a value for each live item
+pub item_held : {O : Type 0} (watch : O → Watched) (a : AlterOf O)
+    → states.IsInStep (state_of watch a) → (sort : ItemSort) (key : ℕ) (s : Seen)
+    → look_in (chains_seen watch a.chains) sort key ≡ Some s
+    → (value : Value) (id : ℕ) → Plays (own_role value) s → IsLive a.graph.graph sort id
     → HasItem value id s
-item_held watch w in_step sort key s seen (values.Int v) id plays live =
+item_held watch a in_step sort key s seen (values.Int v) id plays live =
     let h = as_values held.Ints s.held plays.making in
     subst (λ x. IsTrue (has_id entry_id id (among ints_among x))) (sym h.is)
-    (live_entry watch w in_step sort key s seen held.Ints h.entries h.is id live)
-item_held watch w in_step sort key s seen (values.Bool v) id plays live =
+    (entry_in watch a in_step sort key s seen held.Ints h.entries h.is id live)
+item_held watch a in_step sort key s seen (values.Bool v) id plays live =
     let h = as_values held.Bools s.held plays.making in
     subst (λ x. IsTrue (has_id entry_id id (among bools_among x))) (sym h.is)
-    (live_entry watch w in_step sort key s seen held.Bools h.entries h.is id live)
-item_held watch w in_step sort key s seen (values.Text v) id plays live =
+    (entry_in watch a in_step sort key s seen held.Bools h.entries h.is id live)
+item_held watch a in_step sort key s seen (values.Text v) id plays live =
     let h = as_values held.Texts s.held plays.making in
     subst (λ x. IsTrue (has_id entry_id id (among texts_among x))) (sym h.is)
-    (live_entry watch w in_step sort key s seen held.Texts h.entries h.is id live)
+    (entry_in watch a in_step sort key s seen held.Texts h.entries h.is id live)
 
--- ---- the world
+-- ---- what the rows show
+
+-- the bools of the map with the value at the item; those of no other map are written
+abbrev pub bools_with : Value → ℕ → List (Entry Bool) → List (Entry Bool)
+bools_with (values.Int v) id es = es
+bools_with (values.Bool v) id es = swapped entry_id (with_value id v) es
+bools_with (values.Text v) id es = es
+
+module _ (was : Look) (sort : ItemSort) (name : Name) (value : Value) (id : ℕ)
+    (now : List (Entry Bool)) where
+  -- the map has the new bools, and so has each index of it once it was written
+  abbrev pub EntriesShow : Bool → Look → Name → MapKind → ℕ → Type 0
+  EntriesShow done look own maps.Ints key = Unit {0}
+  EntriesShow done look own maps.Bools key =
+      bools_seen (look sort key) ≡ cond (bytes_eq own name) now (bools_seen (was sort key))
+  EntriesShow done look own maps.Texts key = Unit {0}
+  EntriesShow done look own (maps.Degrees way) key = Unit {0}
+  EntriesShow done look own (maps.Trues source) key =
+      trues_seen (look sort key)
+      ≡ cond (done && bytes_eq source name) now (trues_seen (was sort key))
+
+  abbrev held_at : Look → MapKind → ℕ → Option plain.Held
+  held_at look kind key = option_map (λ (s : Seen). held_by kind s.held)
+      (look (seat_sort sort kind) key)
+
+  pub record RowShows (done : Bool) (look : Look) (own : Name) (kind : MapKind) (key : ℕ) : Type 0
+    where
+      pub plain : held_at look kind key
+          ≡ cond (bytes_eq own name) (option_map (put_at value id) (held_at was kind key))
+          (held_at was kind key)
+      pub entries : EntriesShow done look own kind key
+
+  abbrev pub Shows : Bool → Look → Named MapRow → Type 0
+  Shows done look e = RowShows done look e.name e.value.kind e.value.key.0
+
+  -- where the same is seen of it, a row shows the same
+  pub row_stays : (done : Bool) (look later : Look) (own : Name) (kind : MapKind) (key : ℕ)
+      → later (seat_sort sort kind) key ≡ look (seat_sort sort kind) key
+      → RowShows done look own kind key → RowShows done later own kind key
+  row_stays done look later own kind key same shows = record {
+    plain = ap (option_map (λ (s : Seen). held_by kind s.held)) same ∙ shows.plain;
+    entries = by kind same shows.entries;
+  }
+    where
+      by : (kind : MapKind) → later (seat_sort sort kind) key ≡ look (seat_sort sort kind) key
+          → EntriesShow done look own kind key → EntriesShow done later own kind key
+      by maps.Ints same is = tt
+      by maps.Bools same is = ap bools_seen same ∙ is
+      by maps.Texts same is = tt
+      by (maps.Degrees way) same is = tt
+      by (maps.Trues source) same is = ap trues_seen same ∙ is
+
+  pub rows_stay : (done : Bool) (look later : Look) (rows : List (Named MapRow))
+      → AllOf (Agrees look later) (map (map_claim sort) rows) → AllOf (Shows done look) rows
+      → AllOf (Shows done later) rows
+  rows_stay done look later [] agree all = tt
+  rows_stay done look later (e ∷ es) agree all = (
+    row_stays done look later e.name e.value.kind e.value.key.0 agree.0 all.0,
+    rows_stay done look later es agree.1 all.1,
+  )
+
+  -- a row that is no index of the map has nothing to be written
+  pub row_passes : (look : Look) (own : Name) (kind : MapKind) (key : ℕ)
+      → is_index_kind name kind ≡ false → RowShows false look own kind key
+      → RowShows true look own kind key
+  row_passes look own kind key apart shows = record {
+    plain = shows.plain;
+    entries = by kind apart shows.entries;
+  }
+    where
+      by : (kind : MapKind) → is_index_kind name kind ≡ false
+          → EntriesShow false look own kind key → EntriesShow true look own kind key
+      by maps.Ints apart is = tt
+      by maps.Bools apart is = is
+      by maps.Texts apart is = tt
+      by (maps.Degrees way) apart is = tt
+      by (maps.Trues source) apart is =
+          is ∙ ap (λ b. cond b now (trues_seen (was sort key))) (sym apart)
+
+  -- a row of another name that shows what it showed
+  pub row_unwritten : (look : Look) (own : Name) (kind : MapKind) (key : ℕ)
+      → bytes_eq own name ≡ false → look (seat_sort sort kind) key ≡ was (seat_sort sort kind) key
+      → RowShows false look own kind key
+  row_unwritten look own kind key other same = record {
+    plain = ap (option_map (λ (s : Seen). held_by kind s.held)) same
+        ∙ ap (λ b. cond b (option_map (put_at value id) (held_at was kind key))
+        (held_at was kind key)) (sym other);
+    entries = by kind same;
+  }
+    where
+      by : (kind : MapKind) → look (seat_sort sort kind) key ≡ was (seat_sort sort kind) key
+          → EntriesShow false look own kind key
+      by maps.Ints same = tt
+      by maps.Bools same =
+          ap bools_seen same
+          ∙ ap (λ b. cond b now (bools_seen (was sort key))) (sym other)
+      by maps.Texts same = tt
+      by (maps.Degrees way) same = tt
+      by (maps.Trues source) same = ap trues_seen same
+
+  rows_unwritten : (look : Look) (rows : List (Named MapRow)) → AllOf (IsOther name) rows
+      → AllOf (Agrees was look) (map (map_claim sort) rows) → AllOf (Shows false look) rows
+  rows_unwritten look [] other agree = tt
+  rows_unwritten look (e ∷ es) other agree = (
+    row_unwritten look e.name e.value.kind e.value.key.0 other.0 agree.0,
+    rows_unwritten look es other.1 agree.1,
+  )
+
+-- ---- the seat of the map was written to
+
+module _ {O : Type 0} (watch : O → Watched) (w : World O) (sort : ItemSort) where
+  -- all but what the rows show is as in a world in step
+  pub record AreKept (a : AlterOf O) : Type 0 where
+    pub graph : a.graph ≡ w.graph.graph
+    pub then : states.IsInStep (state_of watch a)
+    pub seated : AreSeated (claims_of w) (chains_seen watch a.chains)
+    pub others : AllOf (Agrees (look_of watch w) (look_in (chains_seen watch a.chains)))
+        (claims_with w sort [])
+
+  -- a row among those of the sort
+  module _ (front : List (Named MapRow)) (e : Named MapRow) (back : List (Named MapRow))
+      (is : (tables_of w sort).maps.rows ≡ front ++ e ∷ back)
+      (differ : ClaimsDiffer (claims_of w)) (c d : ChainsSeen) (change : Seen → Held)
+      (puts : Puts (seat_sort sort e.value.kind) e.value.key.0 change c d) where
+    abbrev front_claims : List Claim
+    front_claims = before w sort ++ map (map_claim sort) front
+
+    abbrev back_claims : List Claim
+    back_claims = map (map_claim sort) back ++ behind w sort
+
+    abbrev Same : Claim → Type 0
+    Same = Agrees (look_in c) (look_in d)
+
+    all_but : AllOf Same (front_claims ++ back_claims)
+    all_but =
+        all_elsewhere (seat_sort sort e.value.kind) e.value.key.0 change c d puts
+        (front_claims ++ back_claims)
+        (apart_all front_claims (map_claim sort e) back_claims
+        (subst ClaimsDiffer
+        (claims_are w sort ∙ ap (claims_with w sort) is ∙ claims_midst w sort front e back) differ))
+
+    -- all other rows show what they showed, and so does all else
+    pub front_same : AllOf Same (map (map_claim sort) front)
+    front_same = all_right Same (before w sort) (map (map_claim sort) front)
+        (all_left Same front_claims back_claims all_but)
+
+    pub back_same : AllOf Same (map (map_claim sort) back)
+    back_same = all_left Same (map (map_claim sort) back) (behind w sort)
+        (all_right Same front_claims back_claims all_but)
+
+    pub others_same : AllOf Same (claims_with w sort [])
+    others_same =
+        all_both Same (before w sort) (behind w sort)
+        (all_left Same (before w sort) (map (map_claim sort) front)
+        (all_left Same front_claims back_claims all_but))
+        (all_right Same (map (map_claim sort) back) (behind w sort)
+        (all_right Same front_claims back_claims all_but))
 
 module _ {O : Type 0} (watch : O → Watched) (w : World O) (sort : ItemSort) (name : Name)
-    (row : MapRow) (value : Value) (id : ℕ) (old now : O) (in_step : AreInStep watch w)
+    (row : MapRow) (value : Value) (id : ℕ) (a : AlterOf O) (in_step : AreInStep watch w)
     (at : Stands (tables_of w sort).maps.rows name row)
     (kind : row.kind ≡ kind_for (type_for value))
-    (seen : look_of watch w sort row.key.0 ≡ Some (watch old).seen)
-    (plays : Plays (own_role value) (watch old).seen) (live : HasItem value id (watch old).seen)
-    (may : MayWrite watch sort row.key.0 w.graph old)
-    (wrote : (watch now).seen
-    ≡ holding (held_with value id (watch old).seen) (watch old).seen)
-    (fits : StillFits (watch old).seen (watch now).seen) where
+    (puts : Puts sort row.key.0 (held_with value id) (chains_seen watch w.graph.chains)
+    (chains_seen watch a.chains))
+    (plays : Plays (own_role value) puts.was) (live : HasItem value id puts.was)
+    (same_graph : a.graph ≡ w.graph.graph) (then : states.IsInStep (state_of watch a)) where
   abbrev key : ℕ
   key = row.key.0
-
-  abbrev a : AlterOf O
-  a = graph_with sort key now w.graph
-
-  abbrev pub later : World O
-  later = record w { graph = a }
-
-  abbrev t : SeatSeen
-  t = seat_from watch key (Some now)
 
   abbrev c : ChainsSeen
   c = chains_seen watch w.graph.chains
 
-  writes : Writes watch sort key w.graph old now
-  writes = may now
-
-  same_role : (role : Role) → Plays role (watch old).seen → Plays role (watch now).seen
-  same_role role p = record {
-    form = ap (λ s. s.form) wrote ∙ p.form;
-    making = ap (λ s. making_of s.held) wrote ∙ made_with value id (watch old).seen
-        ∙ sym (made_values value (watch old).seen plays) ∙ p.making;
-    kind = ap (λ s. claims.is_map s.kind) wrote ∙ p.kind;
-  }
-
-  pub value_in_step : AreInStep watch later
-  value_in_step = record {
-    graph = writes.in_step in_step.graph
-        (rewrites (facts w.graph.graph.graph sort) (watch old).seen (watch now).seen
-        (held_with value id (watch old).seen) wrote fits
-        (no_snapshot value (watch old).seen plays));
-    seated = subst (AreSeated (claims_of w)) (sym writes.seats)
-        (seats_stay sort t (watch old).seen c seen (claims_of w) same_role
-        (ap (λ s. claims.is_map s.kind) wrote) in_step.seated);
-    boxes = in_step.boxes;
-    bare = record {
-      snapshots = in_step.bare.snapshots;
-      views = in_step.bare.views;
-      node_maps = in_step.bare.node_maps;
-      arc_maps = in_step.bare.arc_maps;
-      attributes = in_step.bare.attributes;
-    };
-  }
+  abbrev d : ChainsSeen
+  d = chains_seen watch a.chains
 
   abbrev was : Look
   was = look_of watch w
 
   abbrev next : Look
-  next = look_in (chains_seen watch a.chains)
+  next = look_in d
 
-  looks : next ≡ look_in (reseated sort t c)
-  looks = ap look_in writes.seats
+  -- the bools that the map has now
+  abbrev pub now : List (Entry Bool)
+  now = bools_with value id (bools_seen (was sort key))
 
-  abbrev front : List Claim
-  front = before w sort ++ map (map_claim sort) at.front
+  own_chain : seat_sort sort row.kind ≡ sort
+  own_chain = own_sort sort row.kind (ap has_values kind ∙ for_values (type_for value))
 
-  abbrev back : List Claim
-  back = map (map_claim sort) at.back ++ behind w sort
+  moved : Puts (seat_sort sort row.kind) key (held_with value id) c d
+  moved = subst (λ s. Puts s key (held_with value id) c d) (sym own_chain) puts
 
-  values_kind : has_values row.kind ≡ true
-  values_kind = ap has_values kind ∙ for_values (type_for value)
+  pub kept : AreKept watch w sort a
+  kept = record {
+    graph = same_graph;
+    then = then;
+    seated = seated_put sort key (held_with value id) c d puts
+        (made_with value id puts.was ∙ sym (made_values value puts.was plays)) (claims_of w)
+        in_step.seated;
+    others = others_same watch w sort at.front (under name row) at.back at.is
+        in_step.seated.claims_differ c d (held_with value id) moved;
+  }
 
-  own : map_claim sort (under name row) ≡ claim sort key (role_of row.kind)
-  own = ap (λ s. claim s key (role_of row.kind)) (own_sort sort row.kind values_kind)
-
-  -- the same is seen of all other claims
-  agree : AllOf (Agrees was next) (front ++ back)
-  agree =
-      all_so (IsElsewhere sort key) (Agrees was next)
-      (λ x apart. ap (λ look. look x.sort x.key) looks
-      ∙ look_elsewhere sort t (watch old).seen c seen x apart)
-      (front ++ back)
-      (apart_all front (claim sort key (role_of row.kind)) back
-      (subst (λ list. claims.ClaimsDiffer list)
-      (claims_are w sort ∙ ap (claims_with w sort) at.is
-      ∙ claims_midst w sort at.front (under name row) at.back ∙ ap (λ x. front ++ x ∷ back) own)
-      in_step.seated.claims_differ))
-
-  others_agree : AllOf (Agrees was next) (claims_with w sort [])
-  others_agree =
-      all_both (Agrees was next) (before w sort) (behind w sort)
-      (all_left (Agrees was next) (before w sort) (map (map_claim sort) at.front)
-      (all_left (Agrees was next) front back agree))
-      (all_right (Agrees was next) (map (map_claim sort) at.back) (behind w sort)
-      (all_right (Agrees was next) front back agree))
-
-  abbrev Changes : Named MapRow → Type 0
-  Changes = ChangesAt (map_seen was sort) (map_seen next sort) name (put_at value id)
-
-  -- rows of other names lead to the same
-  others_same : (rows : List (Named MapRow)) → AllOf (IsOther name) rows
-      → AllOf (Agrees was next) (map (map_claim sort) rows) → AllOf Changes rows
-  others_same [] other all = tt
-  others_same (e ∷ rows) other all = (
-    ap (option_map (λ (s : Seen). held_by e.value.kind s.held)) all.0
-        ∙ ap (λ b. cond b (option_map (put_at value id) (map_seen was sort e.value))
-        (map_seen was sort e.value)) (sym other.0),
-    others_same rows other.1 all.1,
-  )
-
-  -- what the row leads to
-  row_seen : (look : Look) (s : Seen) → look sort key ≡ Some s
-      → map_seen look sort row ≡ Some (held_by (kind_for (type_for value)) s.held)
-  row_seen look s there =
-      ap (λ x. option_map (λ (y : Seen). held_by row.kind y.held) (look x key))
-      (own_sort sort row.kind values_kind)
+  -- what the map's own row shows
+  held_now : (look : Look) (s : Seen) → look sort key ≡ Some s
+      → option_map (λ (x : Seen). held_by row.kind x.held) (look (seat_sort sort row.kind) key)
+      ≡ Some (held_by (kind_for (type_for value)) s.held)
+  held_now look s there =
+      ap (λ x. option_map (λ (y : Seen). held_by row.kind y.held) (look x key)) own_chain
       ∙ ap (option_map (λ (y : Seen). held_by row.kind y.held)) there
       ∙ ap (λ k. Some (held_by k s.held)) kind
 
-  row_changes : Changes (under name row)
-  row_changes =
-      row_seen next (watch now).seen
-      (ap (λ look. look sort key) looks ∙ look_put sort t (watch old).seen c seen)
-      ∙ ap (λ (s : Seen). Some (held_by (kind_for (type_for value)) s.held)) wrote
-      ∙ ap Some (held_put value id (watch old).seen live)
-      ∙ ap (option_map (put_at value id)) (sym (row_seen was (watch old).seen seen))
-      ∙ ap (λ b. cond b (option_map (put_at value id) (map_seen was sort row))
-      (map_seen was sort row)) (sym ((bytes_eq-Decides name name).1 refl))
+  here : next sort key ≡ Some (holding (held_with value id puts.was) puts.was)
+  here = seen_put sort key (held_with value id) c d puts
 
-  rows_change : AllOf Changes (tables_of w sort).maps.rows
-  rows_change =
-      subst (AllOf Changes) (sym at.is)
-      (all_both Changes at.front (under name row ∷ at.back)
-      (others_same at.front at.before
-      (all_right (Agrees was next) (before w sort) (map (map_claim sort) at.front)
-      (all_left (Agrees was next) front back agree))) (
-        row_changes,
-        others_same at.back at.behind
-            (all_left (Agrees was next) (map (map_claim sort) at.back) (behind w sort)
-            (all_right (Agrees was next) front back agree)),
+  itself : bytes_eq name name ≡ true
+  itself = (bytes_eq-Decides name name).1 refl
+
+  own_entries : EntriesShow was sort name value id now false next name row.kind key
+  own_entries = subst (λ k. EntriesShow was sort name value id now false next name k key) (sym kind)
+      (by value here puts.found)
+    where
+      by : (v : Value) → next sort key ≡ Some (holding (held_with v id puts.was) puts.was)
+          → was sort key ≡ Some puts.was
+          → EntriesShow was sort name value id (bools_with v id (bools_seen (was sort key))) false
+          next name (kind_for (type_for v)) key
+      by (values.Int v) there before = tt
+      by (values.Bool v) there before =
+          ap bools_seen there
+          ∙ ap (λ o. swapped entry_id (with_value id v) (bools_seen o)) (sym before)
+          ∙ ap (λ b. cond b (swapped entry_id (with_value id v) (bools_seen (was sort key)))
+          (bools_seen (was sort key))) (sym itself)
+      by (values.Text v) there before = tt
+
+  -- each row shows what it should, but for indexes of the map, which aren't written yet
+  pub rows_begin : AllOf (Shows was sort name value id now false next) (tables_of w sort).maps.rows
+  rows_begin =
+      let front = at.front in
+      let back = at.back in
+      let same = front_same watch w sort front (under name row) back at.is
+      in_step.seated.claims_differ c d (held_with value id) moved in
+      let same_behind = back_same watch w sort front (under name row) back at.is
+      in_step.seated.claims_differ c d (held_with value id) moved in
+      subst (AllOf (Shows was sort name value id now false next)) (sym at.is)
+      (all_both (Shows was sort name value id now false next) front (under name row ∷ back)
+      (rows_unwritten was sort name value id now next front at.before same) (
+        record {
+          plain = held_now next (holding (held_with value id puts.was) puts.was) here
+              ∙ ap Some (held_put value id puts.was live)
+              ∙ ap (option_map (put_at value id)) (sym (held_now was puts.was puts.found))
+              ∙ ap (λ b. cond b (option_map (put_at value id) (map_seen was sort row))
+              (map_seen was sort row)) (sym itself);
+          entries = own_entries;
+        },
+        rows_unwritten was sort name value id now next back at.behind same_behind,
       ))
-
-  pub value_written : plain_of watch later
-      ≡ with_map_changed (plain_of watch w) sort name (put_at value id)
-  value_written =
-      ap (plain_of watch) (sym (same_rows_world w sort a))
-      ∙ plain_later watch w sort (tables_of w sort).maps a
-      ∙ maps_seen w in_step.bare w.graph.graph.graph was next (kinds_of watch w.pool.items) a sort
-      (tables_of w sort).maps others_agree
-      ∙ ap (with_maps (plain_of watch w) sort)
-      (looked_changed (map_seen was sort) (map_seen next sort) name (put_at value id)
-      (tables_of w sort).maps.rows rows_change
-      ∙ ap (λ maps. with_change maps name (put_at value id)) (sym (maps_plain watch w sort)))

@@ -1,5 +1,5 @@
 -- What maps hold after a notice, as columns.
-use Rattle.std.proofs.Common.{◌≡◌, ℕ, true, cond, List, [], map, refl, sym, ap}
+use Rattle.std.proofs.Common.{◌≡◌, ℕ, true, false, cond, List, [], map, refl, sym, ap}
 use Rattle.std.proofs.Common.{◌∙◌}
 use Rattle.std.proofs.Common.{subst, Option, Some, None}
 use Rattle.std.specs.Prelude.{nat_eq, ◌&&◌, ◌-◌, option_and_then, option_map}
@@ -32,6 +32,7 @@ use Rattle.alter_graph.proofs.Saving.{held_noticed}
 use Rattle.plain_world.specs.Tables.{Name}
 use Rattle.plain_world.specs.World as plain
 use Rattle.plain_world.specs.Following.{column_after, labels_after, held_after}
+use Rattle.desk_seats.specs.Contents.{among, bools_among, trues_among}
 use Rattle.desk_world.specs.declared.tables.MapKind.{MapKind}
 use Rattle.desk_world.specs.declared.tables.MapKind.TheVariants as maps
 use Rattle.desk_world.specs.Claims.{is_map, made_for, role_of}
@@ -157,6 +158,22 @@ module _ (t : held.MapType) where
   column_noticed (Loses (Erase f)) live count es can fits = column_without f.id es
   column_noticed (Loses Clear) live count es can fits = refl
 
+-- the entries after a change of the items
+abbrev pub entries_after : {V : Type 0} → V → Change → List (held.Entry V) → List (held.Entry V)
+entries_after default (Added id) es = with_item entry_id (record { id = id; value = default }) es
+entries_after default (Erased id) es = without_item entry_id id es
+entries_after default (Cleared count) es = []
+entries_after default _ es = es
+
+entries_changed : (t : held.MapType) (n : Notice) (count : ℕ)
+    (es : List (held.Entry (held.ValueOf t)))
+    → entries_noticed t n es ≡ entries_after (held.default_of t) (change_by n count) es
+entries_changed t (Tells (Add f)) count es = refl
+entries_changed t (Tells (Shift old now)) count es = refl
+entries_changed t (Tells (Build all)) count es = refl
+entries_changed t (Loses (Erase f)) count es = refl
+entries_changed t (Loses Clear) count es = refl
+
 labels_noticed : (n : Notice) (live : List Fact) (count : ℕ)
     (es : List (held.Entry (Option Name))) → CanHear n live
     → labelled (entries_noticed held.Labels n es) ≡ labels_after (change_by n count) (labelled es)
@@ -192,6 +209,21 @@ module _ (n : Notice) (live : List Fact) (count : ℕ) (can : CanHear n live) wh
       (λ es fit. ap plain.Texts (column_noticed held.Texts n live count es can fit))
   held_follows (maps.Degrees way) h made fits = refl
   held_follows (maps.Trues map) h made fits = refl
+
+  -- the entries of a map of bools and those of an index change alike
+  pub bools_follow : (h : Held) → making_of h ≡ OfValues held.Bools → ValuesFit h live
+      → among bools_among (held_noticed n h)
+      ≡ entries_after false (change_by n count) (among bools_among h)
+  bools_follow h made fits =
+      of_values held.Bools (among bools_among) (entries_after false (change_by n count)) h made
+      fits (λ es fit. entries_changed held.Bools n count es)
+
+  pub trues_follow : (h : Held) → making_of h ≡ OfValues held.Trues → ValuesFit h live
+      → among trues_among (held_noticed n h)
+      ≡ entries_after false (change_by n count) (among trues_among h)
+  trues_follow h made fits =
+      of_values held.Trues (among trues_among) (entries_after false (change_by n count)) h made
+      fits (λ es fit. entries_changed held.Trues n count es)
 
   -- and so do the labels
   pub labels_follow : (h : Held) → making_of h ≡ OfValues held.Labels → ValuesFit h live

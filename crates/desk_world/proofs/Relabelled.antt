@@ -1,10 +1,10 @@
 -- A world in which an item got a label.
-use Rattle.std.proofs.Common.{◌≡◌, ℕ, Bool, true, false, List, [], ◌∷◌, ◌++◌, map, refl, sym, ap}
+use Rattle.std.proofs.Common.{◌≡◌, ℕ, false, List, [], ◌∷◌, ◌++◌, map, refl, sym, ap}
 use Rattle.std.proofs.Common.{subst}
-use Rattle.std.proofs.Common.{Option, Some, None, ◌∙◌, Contains}
-use Rattle.std.specs.Prelude.{IsTrue, option_map, ◌==◌, ◌&&◌, ◌||◌}
+use Rattle.std.proofs.Common.{Option}
+use Rattle.std.specs.Prelude.{option_map, ◌==◌, ◌&&◌}
 use Rattle.std.specs.FinMap as fin
-use Rattle.std.specs.List.{flat_map, list_any}
+use Rattle.std.specs.List.{flat_map}
 use Rattle.std.proofs.lemmas.Bool.{or_parts, true≢false}
 use Rattle.base_items.specs.declared.items.ItemSort.{ItemSort}
 use Rattle.base_items.specs.declared.items.ItemSort.TheVariants as sorts
@@ -12,24 +12,21 @@ use Rattle.plain_digraph.specs.Digraph.{Digraph}
 use Rattle.plain_digraph.specs.Lists.{AllOf}
 use Rattle.script_words.specs.declared.commands.GuardWord.{GuardWord}
 use Rattle.observe_core.specs.Seen.{Seen}
-use Rattle.alter_graph.specs.Chains.{ChainsSeen}
 use Rattle.alter_graph.specs.Verdict.{is_sort}
 use Rattle.plain_world.specs.Tables.{Name, Named}
-use Rattle.plain_world.specs.World as plain
 use Rattle.plain_world.specs.Following.{labelled}
 use Rattle.desk_world.specs.declared.tables.MapRow.{MapRow}
 use Rattle.desk_world.specs.declared.tables.GuardRow.{GuardRow}
 use Rattle.desk_world.specs.declared.tables.AttributeRow.{AttributeRow}
-use Rattle.desk_world.specs.declared.tables.AttributeRow.TheVariants as rows
 use Rattle.desk_world.specs.declared.world.World.{World}
 use Rattle.desk_world.specs.Claims as claims
 use Rattle.desk_world.specs.Claims.{Claim, claims_of, is_claimed, ClaimsDiffer, map_claim}
 use Rattle.desk_world.specs.Claims.{guard_claim}
 use Rattle.desk_world.specs.Claims.{snap_claims, role_of}
-use Rattle.desk_world.specs.InStep.{IsBare, is_plain}
+use Rattle.desk_world.specs.InStep.{IsBare}
 use Rattle.desk_world.specs.Looks.{Look, looked}
 use Rattle.desk_world.specs.Plain.{world_seen, map_seen, labels_seen, attribute_seen, ties_seen}
-use Rattle.desk_world.specs.Plain.{guard_seen, guard_by, snapshot_seen, seat_sort, held_by}
+use Rattle.desk_world.specs.Plain.{guard_seen, guard_by, snapshot_seen, held_by}
 use Rattle.desk_world.specs.Plain.{tables_of}
 use Rattle.desk_world.proofs.Changing.{same_rows}
 use Rattle.desk_world.proofs.Seated.{all_left, all_right}
@@ -72,40 +69,30 @@ module _ (look later : Look) where
       each [] all = tt
       each (e ∷ es) all = (ap (option_map (guard_by e.value.sort)) all.0, each es all.1)
 
-  pub attributes_agree : (ties others : ItemSort → Option Seen) (table : List (Named AttributeRow))
-      → AllOf (λ e. is_plain e.value ≡ true) table
-      → looked (attribute_seen others) table ≡ looked (attribute_seen ties) table
-  attributes_agree ties others table all =
-      same_rows (attribute_seen ties) (attribute_seen others) table (each table all)
-    where
-      one : (row : AttributeRow) → is_plain row ≡ true
-          → attribute_seen others row ≡ attribute_seen ties row
-      one (rows.Plain text) is = refl
-      one (rows.Tied sort number) is = absurd (true≢false (sym is))
-
-      each : (table : List (Named AttributeRow)) → AllOf (λ e. is_plain e.value ≡ true) table
-          → AllOf (λ (e : Named AttributeRow). attribute_seen others e.value
-          ≡ attribute_seen ties e.value) table
-      each [] all = tt
-      each (e ∷ es) all = (one e.value all.0, each es all.1)
+-- attributes hang on the seats of ties alone
+pub attributes_agree : (ties others : ItemSort → Option Seen) (table : List (Named AttributeRow))
+    → ((sort : ItemSort) → others sort ≡ ties sort)
+    → looked (attribute_seen others) table ≡ looked (attribute_seen ties) table
+attributes_agree ties others table same = λ i. looked (attribute_seen (λ sort. same sort i)) table
 
 -- ---- the world
 
 module _ {O : Type 0} (w : World O) (bare : IsBare w) (g : Digraph) (look later : Look)
     (pool : List GuardWord) where
   -- what hangs on no item of the sorts
-  others_agree : AllOf (Agrees look later) (map guard_claim w.guards.rows)
+  others_agree : ((sort : ItemSort)
+      → later sort (tables_of w sort).ties.0 ≡ look sort (tables_of w sort).ties.0)
+      → AllOf (Agrees look later) (map guard_claim w.guards.rows)
       → (looked (guard_seen later) w.guards.rows ≡ looked (guard_seen look) w.guards.rows)
       × (looked (snapshot_seen g later) w.snapshots.rows
       ≡ looked (snapshot_seen g look) w.snapshots.rows)
       × (looked (attribute_seen (ties_seen later w)) w.attributes.rows
       ≡ looked (attribute_seen (ties_seen look w)) w.attributes.rows)
-  others_agree guards = (
+  others_agree ties guards = (
     guards_agree look later w.guards.rows guards,
     subst (λ table. looked (snapshot_seen g later) table ≡ looked (snapshot_seen g look) table)
         (sym bare.snapshots) refl,
-    attributes_agree look later (ties_seen look w) (ties_seen later w) w.attributes.rows
-        bare.attributes,
+    attributes_agree (ties_seen look w) (ties_seen later w) w.attributes.rows ties,
   )
 
   -- the labels of one sort have one more, and all else is as before
@@ -114,12 +101,14 @@ module _ {O : Type 0} (w : World O) (bare : IsBare w) (g : Digraph) (look later 
       ≡ fin.insert (labels_seen (look sort (tables_of w sort).labels.0)) id name
       → ((other : ItemSort) → (sort ≡ other → ⊥)
       → later other (tables_of w other).labels.0 ≡ look other (tables_of w other).labels.0)
+      → ((other : ItemSort)
+      → later other (tables_of w other).ties.0 ≡ look other (tables_of w other).ties.0)
       → ((other : ItemSort) → AllOf (Agrees look later)
       (map (map_claim other) (tables_of w other).maps.rows))
       → AllOf (Agrees look later) (map guard_claim w.guards.rows)
       → world_seen g later pool w ≡ labelled (world_seen g look pool w) sort id name
-  one_label sorts.Node id name here apart agree guards =
-      let o = others_agree guards in
+  one_label sorts.Node id name here apart ties agree guards =
+      let o = others_agree ties guards in
       let node_maps = rows_agree look later sorts.Node w.nodes.maps.rows (agree sorts.Node) in
       let arc_maps = rows_agree look later sorts.Arc w.arcs.maps.rows (agree sorts.Arc) in
       let arc_labels = ap labels_seen (apart sorts.Arc (λ e. no_arc e)) in
@@ -133,8 +122,8 @@ module _ {O : Type 0} (w : World O) (bare : IsBare w) (g : Digraph) (look later 
     where
       no_arc : sorts.Node ≡ sorts.Arc → ⊥
       no_arc e = true≢false (ap (λ s. is_sort s sorts.Node) e)
-  one_label sorts.Arc id name here apart agree guards =
-      let o = others_agree guards in
+  one_label sorts.Arc id name here apart ties agree guards =
+      let o = others_agree ties guards in
       let node_maps = rows_agree look later sorts.Node w.nodes.maps.rows (agree sorts.Node) in
       let arc_maps = rows_agree look later sorts.Arc w.arcs.maps.rows (agree sorts.Arc) in
       let node_labels = ap labels_seen (apart sorts.Node (λ e. no_node e)) in
@@ -207,3 +196,18 @@ module _ {O : Type 0} (w : World O) (differ : ClaimsDiffer (claims_of w)) where
   labels_elsewhere sorts.Node sorts.Arc apart key = refl
   labels_elsewhere sorts.Arc sorts.Node apart key = refl
   labels_elsewhere sorts.Arc sorts.Arc apart key = absurd (apart refl)
+
+  -- and all ties
+  pub ties_elsewhere : (sort other : ItemSort)
+      → IsElsewhere sort (tables_of w sort).labels.0
+      (claims.claim other (tables_of w other).ties.0 claims.Ties)
+  ties_elsewhere sorts.Node sorts.Node =
+      (elsewhere sorts.Node w.nodes.labels.0
+      (claims.claim sorts.Node w.nodes.ties.0 claims.Ties
+      ∷ claims.claim sorts.Arc w.arcs.labels.0 claims.Labels
+      ∷ claims.claim sorts.Arc w.arcs.ties.0 claims.Ties ∷ tables) differ.0).0
+  ties_elsewhere sorts.Node sorts.Arc = refl
+  ties_elsewhere sorts.Arc sorts.Node = refl
+  ties_elsewhere sorts.Arc sorts.Arc =
+      (elsewhere sorts.Arc w.arcs.labels.0
+      (claims.claim sorts.Arc w.arcs.ties.0 claims.Ties ∷ tables) differ.1.1.0).0

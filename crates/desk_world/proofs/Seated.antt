@@ -1,5 +1,5 @@
 -- What the seats of a world are known to be.
-use Rattle.std.proofs.Common.{◌≡◌, ℕ, Bool, true, false, List, [], ◌∷◌, ◌++◌, map, refl, sym, ap}
+use Rattle.std.proofs.Common.{◌≡◌, ℕ, List, [], ◌∷◌, ◌++◌, map, sym, ap}
 use Rattle.std.proofs.Common.{subst}
 use Rattle.std.proofs.Common.{Option, Some, None, ◌∙◌}
 use Rattle.std.specs.Prelude.{option_map}
@@ -9,7 +9,7 @@ use Rattle.base_items.specs.declared.items.ItemSort.TheVariants as sorts
 use Rattle.plain_digraph.specs.Lists.{AllOf}
 use Rattle.observe_core.specs.Seen.{Seen, Watched}
 use Rattle.notify_chain.specs.Seats.{find_seat, seat_seen}
-use Rattle.alter_graph.specs.Chains.{ChainsSeen, seats_in, chains_seen}
+use Rattle.alter_graph.specs.Chains.{ChainsSeen, seats_in}
 use Rattle.plain_world.specs.Tables.{Named}
 use Rattle.desk_world.specs.declared.tables.MapRow.{MapRow}
 use Rattle.desk_world.specs.declared.world.World.{World}
@@ -17,7 +17,7 @@ use Rattle.desk_world.specs.Claims as claims
 use Rattle.desk_world.specs.Claims.{Claim, Plays, Sits, claims_of, map_claim, role_of}
 use Rattle.desk_world.specs.Claims.{guard_claim, snap_claims}
 use Rattle.desk_world.specs.InStep.{AreSeated}
-use Rattle.desk_world.specs.Looks.{Look, look_in}
+use Rattle.desk_world.specs.Looks.{look_in}
 use Rattle.desk_world.specs.Plain.{seat_sort, tables_of}
 use Rattle.desk_world.proofs.Looks.{seen_found}
 

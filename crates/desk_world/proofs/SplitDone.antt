@@ -3,13 +3,11 @@ use Rattle.std.proofs.Common.{◌≡◌, ◌+◌, ◌≤◌, ℕ, List, [], ◌�
 use Rattle.std.proofs.Common.{Option, Some, None}
 use Rattle.std.specs.Prelude.{fold, IsSome}
 use Rattle.std.specs.FinMap as fin
-use Rattle.std.proofs.lemmas.Option.{none-some}
 use Rattle.base_items.specs.declared.items.ItemSort.{ItemSort}
 use Rattle.base_items.specs.declared.items.ItemSort.TheVariants as sorts
 use Rattle.base_items.specs.declared.limits.TheConstants.{MAX_ARCS, MAX_NODES}
 use Rattle.script_words.specs.declared.commands.Command.TheVariants as commands
 use Rattle.report_text.specs.declared.faults.StepFault.{StepFault}
-use Rattle.plain_digraph.specs.Digraph.{Digraph}
 use Rattle.plain_digraph.specs.Items.{IsLive, count_of}
 use Rattle.plain_digraph.specs.PlainSteps.{PlainStep, after_steps}
 use Rattle.observe_core.specs.Seen.{Watched}

@@ -1,9 +1,8 @@
 -- The steps of splits: all may be refused, and the new items are live after them.
 use Rattle.std.proofs.Common.{◌≡◌, ◌+◌, ◌≤◌, ◌*◌, ℕ, Bool, true, false, List, [], ◌∷◌, ◌++◌, length}
-use Rattle.std.proofs.Common.{refl, sym, ap, subst, ◌∙◌, arith, Some, None, Option}
+use Rattle.std.proofs.Common.{refl, sym, subst, ◌∙◌, arith}
 use Rattle.std.specs.Prelude.{◌&&◌, fold}
 use Rattle.std.specs.List.{list_all}
-use Rattle.std.specs.FinMap as fin
 use Rattle.std.proofs.lemmas.Bool.{true≢false}
 use Rattle.std.proofs.lemmas.List.{length-append, length-map}
 use Rattle.base_items.specs.declared.items.ItemSort.{ItemSort}
@@ -14,8 +13,8 @@ use Rattle.plain_digraph.specs.Items.{IsLive, count_of, out_arcs, target_of}
 use Rattle.plain_digraph.specs.Lists.{AllOf}
 use Rattle.plain_digraph.specs.PlainSteps.{PlainStep, AddNode, AddArc, MoveFrom, MoveTo, Turn}
 use Rattle.plain_digraph.specs.PlainSteps.{PlaceBack, EraseArc, EraseNode, ClearArcs, ClearNodes}
-use Rattle.plain_digraph.specs.PlainSteps.{after_steps, change_of, is_refusable}
-use Rattle.plain_digraph.specs.Alterations.{Alteration, all_steps, refusable_steps, unrolled}
+use Rattle.plain_digraph.specs.PlainSteps.{after_steps, is_refusable}
+use Rattle.plain_digraph.specs.Alterations.{all_steps, refusable_steps, unrolled}
 use Rattle.plain_digraph.specs.Alterations.{arc_split, node_split, sources_to}
 use Rattle.plain_digraph.specs.Steps.{add_node, move_from, move_to, new_arc, new_node}
 use Rattle.plain_digraph.specs.Valid.{IsValid}
@@ -29,7 +28,6 @@ use Rattle.alter_graph.proofs.Splitting.{split_room}
 use Rattle.plain_world.specs.World.{World, attached}
 use Rattle.plain_world.specs.Following.{follow, new_item}
 use Rattle.plain_world.proofs.StepsKept.{IsSure}
-use Rattle.plain_world.proofs.Followed.{graphs_follow}
 use Rattle.desk_world.specs.declared.alterations.Split.{Split}
 use Rattle.desk_world.specs.declared.alterations.Split.TheVariants as splits
 use Rattle.desk_world.specs.Edits.{split_by, CanSplit}

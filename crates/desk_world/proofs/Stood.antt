@@ -1,6 +1,7 @@
 -- What observers stand for, as far as values and guards go, after a notice.
 use Rattle.std.proofs.Common.{◌≡◌, ℕ, Bool, true, false, cond, List, [], Some, None}
 use Rattle.std.proofs.Common.{refl, sym, ap, ◌∙◌, subst, ◌-◌}
+use Rattle.std.specs.Prelude.{IsTrue}
 use Rattle.std.proofs.lemmas.Option.{none-some, same_Some}
 use Rattle.base_items.specs.declared.items.Fact.{Fact}
 use Rattle.plain_digraph.specs.Facts.{fact_id}
@@ -13,7 +14,8 @@ use Rattle.observe_core.specs.declared.kinds.Kind.TheVariants as kinds
 use Rattle.observe_core.specs.Fits.{Fits, HeldFits}
 use Rattle.observe_core.specs.Guards.{by_kind}
 use Rattle.observe_core.specs.Held.{Held, Nothing, Values, Degree, Half, Kept, Ties, entry_id}
-use Rattle.observe_core.specs.Items.{has_id, number_id}
+use Rattle.observe_core.specs.Held.{IsHeldSound, tie_id}
+use Rattle.observe_core.specs.Items.{has_id, number_id, rises_from}
 use Rattle.observe_core.specs.Losses.{lost, leaves_at}
 use Rattle.observe_core.specs.Seen.{Seen, map_seen}
 use Rattle.observe_core.specs.Told.{held_added, held_shifted, held_erased, held_cleared}
@@ -21,17 +23,21 @@ use Rattle.observe_core.proofs.FitLaws.{fits-added, fits-shifted, fits-cleared}
 use Rattle.observe_core.proofs.ItemLemmas.{map-without}
 use Rattle.notify_chain.specs.Leaving.{goes}
 use Rattle.alter_graph.specs.Steps.{Notice, Tells, Loses}
+use Rattle.desk_seats.specs.Contents.{ties_held}
 use Rattle.alter_graph.proofs.Telling.{CanHear, facts_noticed, IsNew, IsMove}
 use Rattle.desk_world.proofs.Noticed.{heard_by, ValuesFit}
+use Rattle.desk_world.proofs.TiesAfter.{rise_noticed}
 
--- the observer stands for these facts
+-- the observer stands for these facts, and the numbers of its ties rise
 pub record Stood (live : List Fact) (s : Seen) : Type 0 where
   pub guard : s.facts ≡ by_kind [] live s.kind
   pub values : ValuesFit s.held live
+  pub rise : IsTrue (rises_from tie_id 0 (ties_held s.held))
 
-pub stood_of_fits : (live : List Fact) (s : Seen) → Fits s live → Stood live s
-stood_of_fits live s fits =
-    record { guard = fits.guard; values = of s.held fits.held }
+pub stood_of_fits : (live : List Fact) (s : Seen) → Fits s live → IsHeldSound s.held
+    → Stood live s
+stood_of_fits live s fits sound =
+    record { guard = fits.guard; values = of s.held fits.held; rise = rising s.held sound }
   where
     of : (h : Held) → HeldFits h live → ValuesFit h live
     of Nothing fit = tt
@@ -40,6 +46,14 @@ stood_of_fits live s fits =
     of (Half added others kept valid) fit = tt
     of (Kept role all items) fit = tt
     of (Ties ties) fit = tt
+
+    rising : (h : Held) → IsHeldSound h → IsTrue (rises_from tie_id 0 (ties_held h))
+    rising Nothing sound = refl
+    rising (Values t es) sound = refl
+    rising (Degree out ends) sound = refl
+    rising (Half added others kept valid) sound = refl
+    rising (Kept role all items) sound = refl
+    rising (Ties ties) sound = sound
 
 -- ---- values
 
@@ -114,10 +128,12 @@ stood_lost : (loss : Loss) (live : List Fact) (was : Seen) → Stood live was
 stood_lost (Erase f) live was stood = record {
   guard = own_erased f.id was.kind was.facts live stood.guard;
   values = values_erased f live was.held stood.values;
+  rise = rise_noticed (Loses (Erase f)) was.held stood.rise;
 }
 stood_lost Clear live was stood = record {
   guard = (fits-cleared (bare_of was) live (record { guard = stood.guard; held = tt })).guard;
   values = values_cleared was.held;
+  rise = rise_noticed (Loses Clear) was.held stood.rise;
 }
 
 pub stood_next : (n : Notice) (live : List Fact) (was later : Seen) → CanHear n live
@@ -128,6 +144,7 @@ stood_next (Tells (Add f)) live was later can stood is =
       guard = (fits-added f (bare_of was) live (record { guard = stood.guard; held = tt })
           can.untracked).guard;
       values = values_added f live was.held can stood.values;
+      rise = rise_noticed (Tells (Add f)) was.held stood.rise;
     })
 stood_next (Tells (Shift old now)) live was later can stood is =
     subst (Stood (facts_noticed (Tells (Shift old now)) live)) (same_Some _ later is)
@@ -135,6 +152,7 @@ stood_next (Tells (Shift old now)) live was later can stood is =
       guard = (fits-shifted old now (bare_of was) live (record { guard = stood.guard; held = tt })
           can.is_live can.tracked can.same_id can.differs).guard;
       values = values_shifted old now live was.held can stood.values;
+      rise = rise_noticed (Tells (Shift old now)) was.held stood.rise;
     })
 stood_next (Tells (Build all)) live was later can stood is = absurd can
 stood_next (Loses loss) live was later can stood is =

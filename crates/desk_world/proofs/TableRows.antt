@@ -152,6 +152,18 @@ module _ {X Y Z : Type 0} (look : X → Option Y) (read : Named Y → Z) where
       ∙ ap (λ o. gathered (take k rows) ++ map read (cons_option (option_map (under e.name) o) []))
       leads
 
+  pub gathered_same : (rows : List (Named X)) (k : ℕ) (e : Named X) → slice_get rows k ≡ Some e
+      → look e.value ≡ None → gathered (take (k + 1) rows) ≡ gathered (take k rows)
+  gathered_same rows k e at leads =
+      ap gathered (take_more rows k e at)
+      ∙ ap (map read)
+      (filter_map-append (λ (row : Named X). option_map (under row.name) (look row.value))
+      (take k rows) (e ∷ []))
+      ∙ map-append read (looked look (take k rows)) (looked look (e ∷ []))
+      ∙ ap (λ o. gathered (take k rows) ++ map read (cons_option (option_map (under e.name) o) []))
+      leads
+      ∙ append-nil (gathered (take k rows))
+
   module _ (test : Named Y → Bool) where
     -- and of what passes alone
     abbrev pub passing : List (Named X) → List Z

@@ -1,27 +1,24 @@
 -- The rows of a document may be put to a world in two passes: first the items, and then their
 -- labels and texts.
-use Rattle.std.proofs.Common.{◌≡◌, ℕ, suc, ◌+◌, ◌<◌, List, [], ◌∷◌, map, refl, sym, ap, ◌∙◌, subst}
+use Rattle.std.proofs.Common.{◌≡◌, ℕ, ◌+◌, ◌<◌, List, [], ◌∷◌, map, refl, sym, ap, ◌∙◌, subst}
 use Rattle.std.proofs.Common.{Option, arith, inl, inr}
-use Rattle.std.specs.Prelude.{fold, pos, false, unwrap_or}
+use Rattle.std.specs.Prelude.{fold, pos, false}
 use Rattle.std.specs.Cmp.{nat_cmp_total}
-use Rattle.std.specs.Ordering.{nat_cmp}
 use Rattle.std.specs.FinMap as fin
 use Rattle.std.proofs.lemmas.Bool.{cases_eq}
-use Rattle.base_items.specs.declared.items.ItemSort.{ItemSort}
 use Rattle.base_items.specs.declared.items.ItemSort.TheVariants.{Node, Arc}
 use Rattle.lgf_file.specs.Rows.{Cells}
 use Rattle.lgf_file.specs.declared.documents.Link.{Link}
 use Rattle.plain_digraph.specs.Digraph.{Digraph}
 use Rattle.plain_digraph.specs.Steps.{new_node, new_arc, next_id, used_after}
 use Rattle.plain_digraph.specs.Lists.{all_but_first}
-use Rattle.plain_digraph.specs.PlainSteps.{PlainStep, Change, Untouched, Added, AddNode, AddArc}
-use Rattle.plain_digraph.specs.PlainSteps.{change_of, after_step}
+use Rattle.plain_digraph.specs.PlainSteps.{Change, Untouched, Added, AddNode, AddArc}
 use Rattle.plain_digraph.proofs.Keys.{get_new, get_other}
-use Rattle.plain_world.specs.Tables.{Name, Named, under}
-use Rattle.plain_world.specs.World.{World, Attached, Column, Held, Ints, Bools, Texts, Degrees}
-use Rattle.plain_world.specs.World.{Trues, attached}
+use Rattle.plain_world.specs.Tables.{Named, under}
+use Rattle.plain_world.specs.World.{World, Column, Held, Ints, Bools, Texts, Degrees}
+use Rattle.plain_world.specs.World.{Trues}
 use Rattle.plain_world.specs.Values.{written_at}
-use Rattle.plain_world.specs.Following.{follow, held_after, attached_after, new_item}
+use Rattle.plain_world.specs.Following.{follow, held_after}
 use Rattle.plain_world.specs.Documents.{described, with_texts, with_row, with_link}
 use Rattle.desk_world.specs.Loading.{with_nodes, with_arcs, values_of, all_described, in_two}
 

@@ -10,6 +10,7 @@ use Rattle.alter_graph.specs.State as graph
 use Rattle.alter_graph.specs.State.{IsSame, AlterOf, state_of}
 use Rattle.desk_world.specs.declared.world.World.{World}
 use Rattle.desk_world.specs.Claims.{Claim, Sits, claims_of, is_claimed}
+use Rattle.desk_world.specs.Derived.{AreDerived}
 use Rattle.desk_world.specs.InStep.{AreSeated, AreInStep, Differ, keys_in, guards_seated}
 use Rattle.desk_world.specs.Looks.{Look, look_in}
 use Rattle.desk_world.specs.Plain.{plain_of, world_seen, kinds_of}
@@ -72,10 +73,9 @@ module _ {O : Type 0} (watch : O → Watched) (w : World O) (a : AlterOf O)
     bare = record {
       snapshots = in_step.bare.snapshots;
       views = in_step.bare.views;
-      node_maps = in_step.bare.node_maps;
-      arc_maps = in_step.bare.arc_maps;
-      attributes = in_step.bare.attributes;
     };
+    derived = subst (λ look. AreDerived look w.nodes w.arcs w.attributes.rows)
+        (sym (look_still c d same.chains)) in_step.derived;
   }
 
   pub plain_still : plain_of watch (record w { graph = a }) ≡ plain_of watch w

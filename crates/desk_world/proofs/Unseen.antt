@@ -6,18 +6,16 @@ use Rattle.std.specs.Prelude.{is_err, OnOk}
 use Rattle.std.proofs.Math.Seq.{take-suc, take-length}
 use Rattle.lgf_file.specs.Rows.{Cells}
 use Rattle.lgf_file.specs.declared.documents.Link.{Link}
-use Rattle.script_words.specs.declared.commands.GuardWord.{GuardWord}
 use Rattle.plain_digraph.specs.Digraph.{Digraph}
-use Rattle.plain_digraph.specs.PlainSteps.{PlainStep, AddNode, AddArc, after_step}
+use Rattle.plain_digraph.specs.PlainSteps.{AddNode, AddArc, after_step}
 use Rattle.plain_digraph.specs.Valid.{IsValid}
 use Rattle.plain_digraph.specs.Alterations.{single}
 use Rattle.notify_chain.specs.Seats.{SeatSeen, Each, Became}
 use Rattle.alter_graph.specs.Chains.{ChainSeen, ChainsSeen, no_chain, no_chains, IsSameChain}
 use Rattle.alter_graph.specs.Chains.{IsSameChains}
-use Rattle.alter_graph.specs.State.{State, IsSame}
+use Rattle.alter_graph.specs.State.{State}
 use Rattle.alter_graph.specs.Steps.{took}
 use Rattle.alter_graph.specs.Outcome.{Happens}
-use Rattle.plain_world.specs.Tables.{Name}
 use Rattle.plain_world.specs.World.{World}
 use Rattle.plain_world.specs.Following.{follow}
 use Rattle.desk_world.specs.Loading.{with_nodes, with_arcs}

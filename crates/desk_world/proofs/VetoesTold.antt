@@ -1,6 +1,6 @@
 -- Which guard of a world refuses some steps, and what is told of it.
 use Rattle.std.proofs.Common.{◌≡◌, ℕ, true, List, [], ◌∷◌, ◌++◌, map, refl, sym, ap, subst}
-use Rattle.std.proofs.Common.{Option, Some, None, ◌∙◌, ◌+◌, arith}
+use Rattle.std.proofs.Common.{Option, Some, None, ◌∙◌, arith}
 use Rattle.std.specs.Prelude.{find, option_map, is_some}
 use Rattle.std.specs.List.{flat_map}
 use Rattle.std.proofs.lemmas.Option.{none-some, same_Some}

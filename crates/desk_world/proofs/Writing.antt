@@ -1,7 +1,7 @@
 -- A world whose seat of labels was written to.
-use Rattle.std.proofs.Common.{◌≡◌, ℕ, ◌≤◌, Bool, true, false, cond, List, [], ◌∷◌, map, refl, sym}
+use Rattle.std.proofs.Common.{◌≡◌, ℕ, [], map, refl, sym}
 use Rattle.std.proofs.Common.{ap}
-use Rattle.std.proofs.Common.{subst, Option, Some, None, ◌∙◌, inl, inr, Contains}
+use Rattle.std.proofs.Common.{subst, Some, ◌∙◌}
 use Rattle.std.specs.Prelude.{IsTrue}
 use Rattle.std.specs.FinMap as fin
 use Rattle.std.specs.Option.{option_map_or}
@@ -15,8 +15,6 @@ use Rattle.observe_core.specs.Items.{has_id}
 use Rattle.observe_core.specs.Seen.{Seen, Watched}
 use Rattle.notify_chain.specs.Seats.{SeatSeen, seat_from}
 use Rattle.alter_graph.specs.Chains.{ChainsSeen, chains_seen}
-use Rattle.alter_graph.specs.State as graph
-use Rattle.alter_graph.specs.State.{AlterOf, state_of}
 use Rattle.alter_graph.specs.Lending.{Writes, Rewrites, MayWrite, graph_with}
 use Rattle.index_maps.specs.RefViews.{with_label}
 use Rattle.plain_world.specs.Tables.{Name}
@@ -26,13 +24,15 @@ use Rattle.desk_world.specs.declared.world.World.{World}
 use Rattle.desk_world.specs.Claims as claims
 use Rattle.desk_world.specs.Claims.{Claim, Role, Plays, claims_of, map_claim, guard_claim}
 use Rattle.desk_world.specs.Columns.{labelled}
+use Rattle.desk_world.specs.Derived.{AreDerived}
 use Rattle.desk_world.specs.InStep.{AreInStep, AreSeated}
 use Rattle.desk_world.specs.Looks.{Look, look_in}
 use Rattle.desk_world.specs.Plain.{plain_of, look_of, tables_of, labels_seen, world_seen, kinds_of}
 use Rattle.desk_world.proofs.Columns.{labels_swapped}
+use Rattle.desk_world.proofs.Derived.{derived_agrees}
 use Rattle.desk_world.proofs.Labelled.{HasLabels}
 use Rattle.desk_world.proofs.Relabelled.{one_label, maps_elsewhere, labels_elsewhere, Agrees}
-use Rattle.desk_world.proofs.Relabelled.{guards_elsewhere}
+use Rattle.desk_world.proofs.Relabelled.{guards_elsewhere, ties_elsewhere}
 use Rattle.desk_world.proofs.Seated.{all_so}
 use Rattle.desk_world.specs.Entries.{labels_at}
 use Rattle.desk_world.proofs.Written.{reseated, look_put, look_elsewhere, look_kept, seats_stay}
@@ -83,6 +83,19 @@ module _ {O : Type 0} (watch : O → Watched) (w : World O) (sort : ItemSort) (o
       (look_in (reseated sort t c)) x
   agree x apart = look_elsewhere sort t (watch old).seen c has.seen x apart
 
+  ties_agree : (other : ItemSort) → look_in (reseated sort t c) other (tables_of w other).ties.0
+      ≡ look_of watch w other (tables_of w other).ties.0
+  ties_agree other =
+      agree (claims.claim other (tables_of w other).ties.0 claims.Ties)
+      (ties_elsewhere w in_step.seated.claims_differ sort other)
+
+  maps_agree : (other : ItemSort) → AllOf (Agrees (look_of watch w) (look_in (reseated sort t c)))
+      (map (map_claim other) (tables_of w other).maps.rows)
+  maps_agree other =
+      all_so (IsElsewhere sort key) (Agrees (look_of watch w) (look_in (reseated sort t c)))
+      agree (map (map_claim other) (tables_of w other).maps.rows)
+      (maps_elsewhere w in_step.seated.claims_differ sort other)
+
   plain_now : (id : ℕ) (name : Name)
       → labels_seen (Some (watch now).seen)
       ≡ fin.insert (labels_seen (Some (watch old).seen)) id name
@@ -95,10 +108,8 @@ module _ {O : Type 0} (watch : O → Watched) (w : World O) (sort : ItemSort) (o
       ∙ ap (λ o. fin.insert (labels_seen o) id name) (sym has.seen))
       (λ other apart. agree (claims.claim other (tables_of w other).labels.0 claims.Labels)
       (labels_elsewhere w in_step.seated.claims_differ sort other apart key))
-      (λ other. all_so (IsElsewhere sort key)
-      (Agrees (look_of watch w) (look_in (reseated sort t c)))
-      agree (map (map_claim other) (tables_of w other).maps.rows)
-      (maps_elsewhere w in_step.seated.claims_differ sort other))
+      ties_agree
+      maps_agree
       (all_so (IsElsewhere sort key) (Agrees (look_of watch w) (look_in (reseated sort t c)))
       agree (map guard_claim w.guards.rows)
       (guards_elsewhere w in_step.seated.claims_differ sort))
@@ -114,10 +125,11 @@ module _ {O : Type 0} (watch : O → Watched) (w : World O) (sort : ItemSort) (o
     bare = record {
       snapshots = in_step.bare.snapshots;
       views = in_step.bare.views;
-      node_maps = in_step.bare.node_maps;
-      arc_maps = in_step.bare.arc_maps;
-      attributes = in_step.bare.attributes;
     };
+    derived = subst (λ look. AreDerived look w.nodes w.arcs w.attributes.rows) (sym looks)
+        (derived_agrees (look_of watch w) (look_in (reseated sort t c)) w.nodes w.arcs
+        w.attributes.rows (ties_agree sorts.Node) (ties_agree sorts.Arc) (maps_agree sorts.Node)
+        (maps_agree sorts.Arc) in_step.derived);
   }
 
   -- an item got a label

@@ -1,29 +1,25 @@
 -- A world after a write to what one of its seats holds.
-use Rattle.std.proofs.Common.{◌≡◌, ◌⊎◌, ℕ, suc, Bool, true, false, cond, List, [], ◌∷◌, ◌++◌, map}
+use Rattle.std.proofs.Common.{◌≡◌, ℕ, suc, Bool, true, false, cond, List, [], ◌∷◌, map}
 use Rattle.std.proofs.Common.{refl, sym}
-use Rattle.std.proofs.Common.{ap, subst, Option, Some, None, ◌∙◌, inl, inr}
-use Rattle.std.specs.Prelude.{option_map, ◌==◌, ◌&&◌, ◌||◌}
-use Rattle.std.specs.List.{list_any}
-use Rattle.std.proofs.lemmas.Bool.{cases_eq, eq-eqb, ne_eqb, true≢false, or_parts}
+use Rattle.std.proofs.Common.{ap, subst, Some, ◌∙◌, inl, inr}
+use Rattle.std.specs.Prelude.{◌==◌, ◌&&◌}
+use Rattle.std.proofs.lemmas.Bool.{cases_eq, eq-eqb, ne_eqb, true≢false}
 use Rattle.base_items.specs.declared.items.Fact.{Fact}
 use Rattle.base_items.specs.declared.items.ItemSort.{ItemSort}
 use Rattle.base_items.specs.declared.items.ItemSort.TheVariants as sorts
 use Rattle.plain_digraph.specs.Lists.{AllOf}
-use Rattle.plain_digraph.specs.Items.{facts}
-use Rattle.observe_core.specs.Held.{Held, making_of}
-use Rattle.observe_core.specs.Seen.{Seen, Watched}
-use Rattle.notify_chain.specs.Seats.{SeatSeen, seat_key, seat_from, put_seat}
-use Rattle.alter_graph.specs.Chains.{ChainSeen, ChainsSeen, chains_seen, seats_in, in_chain}
+use Rattle.observe_core.specs.Held.{Held}
+use Rattle.observe_core.specs.Seen.{Seen}
+use Rattle.notify_chain.specs.Seats.{SeatSeen, seat_key, put_seat}
+use Rattle.alter_graph.specs.Chains.{ChainsSeen, seats_in, in_chain}
 use Rattle.alter_graph.specs.Attaching.{with_seats}
 use Rattle.alter_graph.specs.Verdict.{is_sort}
 use Rattle.alter_graph.specs.Snaps.{IsHalf, half_of, half_held}
-use Rattle.alter_graph.specs.State.{AlterOf, state_of}
-use Rattle.alter_graph.specs.Lending.{Writes, Rewrites, graph_with, chains_with}
+use Rattle.alter_graph.specs.Lending.{Rewrites}
 use Rattle.desk_seats.specs.Contents.{StillFits}
-use Rattle.desk_world.specs.declared.world.World.{World}
 use Rattle.desk_world.specs.Claims.{Claim, Role, Guard, Sits, Plays, claim, is_claimed, is_map}
-use Rattle.desk_world.specs.InStep.{AreSeated, AreInStep, Differ, keys_in, guards_seated}
-use Rattle.desk_world.specs.Looks.{Look, look_in, seen_at}
+use Rattle.desk_world.specs.InStep.{AreSeated, Differ, keys_in, guards_seated}
+use Rattle.desk_world.specs.Looks.{look_in, seen_at}
 use Rattle.desk_world.proofs.Following.{same_sort}
 use Rattle.desk_world.proofs.GuardOrder.{guards_among, guards_put, left_stays}
 use Rattle.desk_world.proofs.Looks.{seen_put, seen_put_other}
@@ -140,7 +136,7 @@ module _ (sort : ItemSort) (t : SeatSeen) (was : Seen) (c : ChainsSeen)
                 ap Some same ∙ sym ((λ i. look_in c (at.0 i) (at.1 i)) ∙ found)
           ] refl
 
-  keys_stay : (other : ItemSort) → keys_in other (reseated sort t c) ≡ keys_in other c
+  pub keys_stay : (other : ItemSort) → keys_in other (reseated sort t c) ≡ keys_in other c
   keys_stay other = elim (same_sort sort other) [
     | inl same ↦
         subst (λ s. keys_in s (reseated sort t c) ≡ keys_in s c) same
@@ -148,7 +144,7 @@ module _ (sort : ItemSort) (t : SeatSeen) (was : Seen) (c : ChainsSeen)
     | inr differ ↦ ap (map seat_key) (there sort other t c differ)
   ]
 
-  guards_stay : is_map t.seen.kind ≡ is_map was.kind → (other : ItemSort)
+  pub guards_stay : is_map t.seen.kind ≡ is_map was.kind → (other : ItemSort)
       → guards_seated other (reseated sort t c) ≡ guards_seated other c
   guards_stay kind other = elim (same_sort sort other) [
     | inl same ↦

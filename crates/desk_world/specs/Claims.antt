@@ -1,14 +1,11 @@
 -- The seats that the tables of a world claim.
 use Rattle.std.specs.Prelude.{◌≡◌, ℕ, Bool, true, false, ◌&&◌, ◌==◌, List, [], ◌∷◌, ◌++◌, map}
-use Rattle.std.specs.Prelude.{Option, None, Some, not}
+use Rattle.std.specs.Prelude.{Option, None, Some}
 use Rattle.std.specs.List.{list_any, flat_map}
-use Rattle.std.specs.Option.{option_map_or}
 use Rattle.base_items.specs.declared.items.ItemSort.{ItemSort}
 use Rattle.base_items.specs.declared.items.ItemSort.TheVariants as sorts
 use Rattle.script_words.specs.declared.commands.Direction.{Direction}
 use Rattle.script_words.specs.declared.commands.Direction.TheVariants as ways
-use Rattle.script_words.specs.declared.commands.LayerWord.{LayerWord}
-use Rattle.script_words.specs.declared.commands.LayerWord.TheVariants as layers
 use Rattle.observe_core.specs.declared.kinds.Kind.{Kind}
 use Rattle.observe_core.specs.declared.kinds.Kind.TheVariants as kinds
 use Rattle.observe_core.specs.Held as held
@@ -23,10 +20,7 @@ use Rattle.desk_world.specs.declared.tables.MapKind.TheVariants as maps
 use Rattle.desk_world.specs.declared.tables.MapRow.{MapRow}
 use Rattle.desk_world.specs.declared.tables.ItemTables.{ItemTables}
 use Rattle.desk_world.specs.declared.tables.GuardRow.{GuardRow}
-use Rattle.desk_world.specs.declared.tables.KeptKeys.{KeptKeys}
-use Rattle.desk_world.specs.declared.tables.ViewRow.{ViewRow}
 use Rattle.desk_world.specs.declared.world.World.{World}
-use Rattle.desk_world.specs.Looks.{Look}
 use Rattle.desk_world.specs.Plain.{seat_sort}
 
 -- what sits in a seat

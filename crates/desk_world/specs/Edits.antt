@@ -1,5 +1,5 @@
 -- What the calls that alter the digraph of a world do.
-use Rattle.std.specs.Prelude.{◌≡◌, ◌≢◌, true, false, List, [], ◌∷◌, map, fold, Result, Ok, Err}
+use Rattle.std.specs.Prelude.{◌≡◌, ◌≢◌, true, List, [], ◌∷◌, map, fold, Result, Ok, Err}
 use Rattle.std.specs.Prelude.{None}
 use Rattle.std.specs.Option.{option_or}
 use Rattle.base_items.specs.declared.items.ItemSort.{ItemSort}

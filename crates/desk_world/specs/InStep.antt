@@ -14,13 +14,12 @@ use Rattle.alter_graph.specs.Verdict.{is_sort}
 use Rattle.plain_world.specs.Valid.{IsWorld}
 use Rattle.desk_world.specs.declared.tables.MapKind.{MapKind}
 use Rattle.desk_world.specs.declared.tables.MapKind.TheVariants as maps
-use Rattle.desk_world.specs.declared.tables.AttributeRow.{AttributeRow}
-use Rattle.desk_world.specs.declared.tables.AttributeRow.TheVariants as rows
 use Rattle.desk_world.specs.declared.world.World.{World}
 use Rattle.desk_world.specs.Looks.{look_in}
-use Rattle.desk_world.specs.Plain.{plain_of}
+use Rattle.desk_world.specs.Plain.{plain_of, look_of}
 use Rattle.desk_world.specs.Claims.{Claim, Guard, Plays, Sits, claims_of, is_claimed, is_map}
 use Rattle.desk_world.specs.Claims.{ClaimsDiffer, has_map_kind}
+use Rattle.desk_world.specs.Derived.{AreDerived}
 
 -- the keys of the seats of a chain, oldest first
 abbrev pub keys_in : ItemSort → ChainsSeen → List ℕ
@@ -74,17 +73,10 @@ has_values maps.Texts = true
 has_values (maps.Degrees way) = false
 has_values (maps.Trues map) = false
 
-abbrev pub is_plain : AttributeRow → Bool
-is_plain (rows.Plain text) = true
-is_plain (rows.Tied sort number) = false
-
--- no command that is run yet makes a snapshot, a view, a degree, an index or a tie
+-- no command that is run yet makes a snapshot or a view
 pub record IsBare {O : Type 0} (w : World O) : Type 0 where
   pub snapshots : w.snapshots.rows ≡ []
   pub views : w.views.rows ≡ []
-  pub node_maps : AllOf (λ e. has_values e.value.kind ≡ true) w.nodes.maps.rows
-  pub arc_maps : AllOf (λ e. has_values e.value.kind ≡ true) w.arcs.maps.rows
-  pub attributes : AllOf (λ e. is_plain e.value ≡ true) w.attributes.rows
 
 module _ {O : Type 0} (watch : O → Watched) where
   -- each box of the pool is a guard that tracks nothing
@@ -92,12 +84,14 @@ module _ {O : Type 0} (watch : O → Watched) where
   AreBoxes boxes = AllOf (λ o. IsBox (watch o).seen) boxes
 
   -- the observers are in step with the digraph, the seats are exactly those that the tables speak
-  -- of, each with its role, and the boxes of the pool track nothing
+  -- of, each with its role, the boxes of the pool track nothing, and indexes and ties are those of
+  -- the maps and the attributes
   pub record AreInStep (w : World O) : Type 0 where
     pub graph : graph.IsInStep (state_of watch w.graph)
     pub seated : AreSeated (claims_of w) (chains_seen watch w.graph.chains)
     pub boxes : AreBoxes w.pool.items
     pub bare : IsBare w
+    pub derived : AreDerived (look_of watch w) w.nodes w.arcs w.attributes.rows
 
   -- besides, the plain world is valid
   pub record IsInStep (w : World O) : Type 0 where

@@ -8,7 +8,9 @@ use Rattle.alter_graph.specs.State.{state_of}
 use Rattle.desk_world.specs.declared.world.World.{World}
 use Rattle.desk_world.specs.Claims.{Claim, claims_of, has_map_kind}
 use Rattle.desk_world.specs.InStep.{AreSeated, AreBoxes, IsBare}
+use Rattle.desk_world.specs.Derived.{AreDerived}
 use Rattle.desk_world.specs.Looks.{look_in}
+use Rattle.desk_world.specs.Plain.{look_of}
 
 -- whether the claim is one of a seat that is there, as every seat but that of a guard is
 abbrev pub is_still : ChainsSeen → Claim → Bool
@@ -33,6 +35,7 @@ module _ {O : Type 0} (watch : O → Watched) where
         (with_none_left (chains_seen watch w.graph.chains))
     pub boxes : AreBoxes watch w.pool.items
     pub bare : IsBare w
+    pub derived : AreDerived (look_of watch w) w.nodes w.arcs w.attributes.rows
     -- where no key of a guard that left is to be taken, none has
     pub all_there : ((sort : ItemSort)
         → (chain_in sort (chains_seen watch w.graph.chains)).left ≡ [])

@@ -3,6 +3,7 @@ pub mod Columns
 pub mod Copies
 pub mod Plain
 pub mod Claims
+pub mod Derived
 pub mod InStep
 pub mod Leaving
 pub mod Entries
@@ -11,6 +12,7 @@ pub mod Edits
 pub mod Boxes
 pub mod Lines
 pub mod Values
+pub mod Retyping
 pub mod Loading
 pub mod Blank
 pub mod Founding
@@ -18,3 +20,7 @@ pub mod RowPlaces
 pub mod MapTables
 pub mod Describing
 pub mod Vetoes
+pub mod Seating
+pub mod Indexes
+pub mod Reads
+pub mod Attributes

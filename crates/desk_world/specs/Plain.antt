@@ -1,5 +1,5 @@
 -- The plain world that a world stands for.
-use Rattle.std.specs.Prelude.{ℕ, List, [], map, Option, None, Some, is_some, option_map, unwrap_or}
+use Rattle.std.specs.Prelude.{List, map, Option, Some, is_some, option_map}
 use Rattle.std.specs.Prelude.{option_and_then}
 use Rattle.std.specs.FinMap as fin
 use Rattle.std.specs.Option.{option_map_or}
@@ -15,9 +15,8 @@ use Rattle.observe_core.specs.Held as held
 use Rattle.observe_core.specs.Seen.{Seen, Watched}
 use Rattle.alter_graph.specs.declared.snaps.SnapKeys.{SnapKeys}
 use Rattle.alter_graph.specs.Chains.{chains_seen}
-use Rattle.plain_world.specs.Tables.{Name, Named, under}
+use Rattle.plain_world.specs.Tables.{Name, under}
 use Rattle.plain_world.specs.World as plain
-use Rattle.desk_names.specs.Rows.{Rows}
 use Rattle.desk_world.specs.declared.tables.MapKind.{MapKind}
 use Rattle.desk_world.specs.declared.tables.MapKind.TheVariants as maps
 use Rattle.desk_world.specs.declared.tables.MapRow.{MapRow}

@@ -1,5 +1,5 @@
 -- Values as the code has them, and the texts that spell them.
-use Rattle.std.specs.Prelude.{◌≡◌, ℕ, IsTrue, List, Option, Some, option_and_then}
+use Rattle.std.specs.Prelude.{◌≡◌, ℕ, IsTrue, List, Option, Some, None, option_and_then}
 use Rattle.std.specs.FinMap as fin
 use Rattle.base_items.specs.declared.items.ItemSort.{ItemSort}
 use Rattle.base_items.specs.declared.items.ItemSort.TheVariants as sorts
@@ -29,6 +29,14 @@ abbrev pub kind_for : MapType → MapKind
 kind_for types.Ints = maps.Ints
 kind_for types.Bools = maps.Bools
 kind_for types.Texts = maps.Texts
+
+-- the type of a map's values, if it has values of its own
+abbrev pub type_by : MapKind → Option MapType
+type_by maps.Ints = Some types.Ints
+type_by maps.Bools = Some types.Bools
+type_by maps.Texts = Some types.Texts
+type_by (maps.Degrees way) = None
+type_by (maps.Trues map) = None
 
 -- the type of a value
 abbrev pub type_for : Value → MapType

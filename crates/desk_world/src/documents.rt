@@ -1,15 +1,15 @@
 //! The document of a world.
 
-ghost use Rattle.std.specs.Prelude.{◌≡◌, true, IfOk};
+ghost use Rattle.std.specs.Prelude.{◌≡◌, IfOk};
 ghost use Rattle.lgf_file.specs.Documents.{IsDoc};
 ghost use Rattle.plain_digraph.specs.Items.{IsLive};
 ghost use Rattle.plain_world.specs.World.{attached};
 ghost use Rattle.plain_world.specs.Documents.{doc_of, columns_of, cells_of};
 ghost use Rattle.desk_world.specs.Plain.{plain_of};
-ghost use Rattle.desk_world.specs.InStep.{IsInStep, has_values, is_plain};
+ghost use Rattle.desk_world.specs.InStep.{IsInStep, has_values};
 ghost use Rattle.desk_world.specs.RowPlaces.{row_places};
 
-use crate::tables::{AttributeRow, MapKind};
+use crate::tables::MapKind;
 use crate::world::World;
 use base_items::{ItemSort, List};
 use desk_seats::Seat;
@@ -35,17 +35,6 @@ pub(crate) fn has_values(kind: &MapKind) -> bool
         MapKind::Texts => true,
         MapKind::Degrees(_) => false,
         MapKind::Trues(_) => false,
-    }
-}
-
-/// The text of a plain attribute.
-pub(crate) fn plain_text(row: &AttributeRow) -> &Text
-    requires { is_plain row.now ≡ true }
-    ensures { row.now ≡ AttributeRow.Plain result.now }
-{
-    match row {
-        AttributeRow::Plain(text) => text,
-        AttributeRow::Tied(_, _) => unreachable!(),
     }
 }
 
@@ -154,18 +143,20 @@ impl<B: Observer> World<Seat<B>> {
         Ok(List::from_vec(links))
     }
 
-    // The attributes, each with its text.
-    fn copy_attributes(&self, alloc: Global) -> Result<List<(Text, Text)>, AllocError>
+    /// The attributes, each with its text, or with the label of its item. Those whose tie has ended
+    /// are left out.
+    pub(crate) fn copy_attributes(&self, alloc: Global) -> Result<List<(Text, Text)>, AllocError>
         requires { IsInStep ⟦<Seat<B> as Observer>⟧.watch self.now }
         ensures { let world = plain_of ⟦<Seat<B> as Observer>⟧.watch self.now in
             IfOk result (λ attributes. attributes ≡ (doc_of world).attributes) }
     {
         let mut attributes = Vec::new(alloc);
         for place in 0..self.attributes.len() {
-            let name = copy_text(alloc, self.attributes.name(place).as_bytes())?;
-            let text = plain_text(self.attributes.value(place));
-            let value = copy_text(alloc, text.as_bytes())?;
-            attributes.push((name, value))?;
+            if let Some(text) = self.row_attribute(self.attributes.value(place)) {
+                let name = copy_text(alloc, self.attributes.name(place).as_bytes())?;
+                let value = copy_text(alloc, text.as_bytes())?;
+                attributes.push((name, value))?;
+            }
         }
         Ok(List::from_vec(attributes))
     }

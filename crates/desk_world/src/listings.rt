@@ -18,7 +18,7 @@ use desk_seats::Seat;
 use observe_core::Observer;
 use report_text::{ArcLine, NodeLine, StepFault};
 use std::alloc::{AllocError, Global};
-use token_text::{Text, copy_text};
+use token_text::Text;
 
 // Whether the name is that of the view that is always there.
 fn is_base(name: &Text) -> bool
@@ -53,7 +53,7 @@ impl<B: Observer> World<Seat<B>> {
         let mut lines = Vec::new(alloc);
         for id in nodes.as_slice() {
             let label = self.label_in(labels, ItemSort::Node, *id);
-            let name = copy_text(alloc, label.as_bytes())?;
+            let name = label.clone()?;
             lines.push(NodeLine { id: *id, name })?;
         }
         Ok(List::from_vec(lines))
@@ -71,7 +71,7 @@ impl<B: Observer> World<Seat<B>> {
         let arc_labels = self.labels(ItemSort::Arc);
         let mut lines = Vec::new(alloc);
         for id in arcs.as_slice() {
-            lines.push(self.arc_line(alloc, node_labels, arc_labels, *id)?)?;
+            lines.push(self.arc_line(node_labels, arc_labels, *id)?)?;
         }
         Ok(List::from_vec(lines))
     }
@@ -79,7 +79,6 @@ impl<B: Observer> World<Seat<B>> {
     /// An arc with its label and those of its ends, looked up in the seats of the labels.
     fn arc_line(
         &self,
-        alloc: Global,
         node_labels: &Seat<B>,
         arc_labels: &Seat<B>,
         id: u32,
@@ -99,9 +98,9 @@ impl<B: Observer> World<Seat<B>> {
         let label = self.label_in(arc_labels, ItemSort::Arc, id);
         let source = self.label_in(node_labels, ItemSort::Node, fact.from);
         let target = self.label_in(node_labels, ItemSort::Node, fact.to);
-        let name = copy_text(alloc, label.as_bytes())?;
-        let from = copy_text(alloc, source.as_bytes())?;
-        let to = copy_text(alloc, target.as_bytes())?;
+        let name = label.clone()?;
+        let from = source.clone()?;
+        let to = target.clone()?;
         Ok(ArcLine { id, name, from, to })
     }
 }

@@ -1,12 +1,13 @@
 //! Maps come, go, and are written to.
 
-ghost use Rattle.std.specs.Prelude.{◌≡◌, false, Some, OnOk, OnErr, map, slice_get};
-ghost use Rattle.desk_seats.specs.Contents.{holding, StillFits};
+ghost use Rattle.std.specs.Prelude.{◌≡◌, false, Some, None, OnOk, OnErr, map, slice_get};
 ghost use Rattle.observe_core.specs.Untold.{TracksNothing};
 ghost use Rattle.alter_graph.specs.Attaching.{HasNoCounts, detached};
 ghost use Rattle.alter_graph.specs.Chains.{chains_seen};
 ghost use Rattle.alter_graph.specs.State.{state_of, IsInStep};
 ghost use Rattle.plain_digraph.specs.Items.{IsLive};
+ghost use Rattle.plain_world.specs.Demands as demands;
+ghost use Rattle.plain_world.specs.Refusals.{breach};
 ghost use Rattle.plain_world.specs.Tables.{entry, has_entry, without_entry};
 ghost use Rattle.plain_world.specs.Valid.{NamesDiffer};
 ghost use Rattle.plain_world.specs.World.{attached};
@@ -15,10 +16,11 @@ ghost use Rattle.desk_world.specs.Claims.{Plays, role_of};
 ghost use Rattle.desk_world.specs.declared.tables.MapRow.{MapRow};
 ghost use Rattle.desk_world.specs.Plain.{plain_of, tables_of};
 ghost use Rattle.desk_world.specs.InStep.{AreInStep};
-ghost use Rattle.desk_world.specs.Values.{HasType, HasItem, kind_for, type_for, put_at};
-ghost use Rattle.desk_world.specs.Values.{held_with};
+ghost use Rattle.desk_world.specs.Values.{HasType, kind_for, type_for, put_at};
 
+use crate::map_tables::seat_sort;
 use crate::opening::attach;
+use crate::seat_writes::{index_key, write_seat, write_true};
 use crate::tables::{MapKind, MapRow};
 use crate::values::Value;
 use crate::world::World;
@@ -33,7 +35,7 @@ use token_text::{Text, copy_text};
 use value_maps::{BoolMap, IntMap, TextMap};
 
 /// A map of the type without items.
-fn empty_map<B: Observer>(alloc: Global, kind: MapType) -> Seat<B>
+pub fn empty_map<B: Observer>(alloc: Global, kind: MapType) -> Seat<B>
     ensures role { Plays (role_of (kind_for kind)) (⟦<Seat<B> as Observer>⟧.watch result).seen }
     ensures empty { TracksNothing (⟦<Seat<B> as Observer>⟧.watch result).seen }
     ensures counts { HasNoCounts (⟦<Seat<B> as Observer>⟧.watch result).seen }
@@ -46,7 +48,7 @@ fn empty_map<B: Observer>(alloc: Global, kind: MapType) -> Seat<B>
 }
 
 /// What a map of the type is.
-fn kind_of(kind: MapType) -> MapKind
+pub fn kind_of(kind: MapType) -> MapKind
     ensures { result ≡ kind_for kind }
 {
     match kind {
@@ -97,9 +99,11 @@ impl<B: Observer> World<Seat<B>> {
         Ok(())
     }
 
-    /// Takes a map out.
+    /// Takes a map out, which nothing reads.
     pub(crate) fn remove_map(&mut self, sort: ItemSort, name: &Text)
         requires in_step { AreInStep ⟦<Seat<B> as Observer>⟧.watch self.old }
+        requires unread { breach (plain_of ⟦<Seat<B> as Observer>⟧.watch self.old)
+            (demands.NoneReads sort name.now) ≡ None }
         ensures gone { plain_of ⟦<Seat<B> as Observer>⟧.watch self.new
             ≡ with_maps (plain_of ⟦<Seat<B> as Observer>⟧.watch self.old) sort
             (without_entry (attached (plain_of ⟦<Seat<B> as Observer>⟧.watch self.old) sort).maps
@@ -109,7 +113,7 @@ impl<B: Observer> World<Seat<B>> {
     {
         match self.take_map(sort, name) {
             None => {}
-            Some(row) => let_go(&mut self.graph, sort, row.key),
+            Some(row) => let_go(&mut self.graph, seat_sort(sort, &row.kind), row.key),
         }
     }
 
@@ -161,7 +165,8 @@ impl<B: Observer> World<Seat<B>> {
         self.write_row(sort, name, key, id, value);
     }
 
-    // Writes the value of a live item to the map of its type whose seat has the key.
+    // Writes the value of a live item to the map of its type whose seat has the key, and a bool to
+    // each index of that map too.
     fn write_row(&mut self, sort: ItemSort, map: &Text, key: SeatKey, id: u32, value: Value)
         requires in_step { AreInStep ⟦<Seat<B> as Observer>⟧.watch self.old }
         requires live { IsLive self.old.graph.graph.graph sort id }
@@ -177,28 +182,34 @@ impl<B: Observer> World<Seat<B>> {
         ensures graph { self.new.graph.graph ≡ self.old.graph.graph }
         ensures pool { self.new.pool ≡ self.old.pool }
     {
-        match self.graph.seat_mut(sort, key) {
-            None => unreachable!(),
-            Some(seat) => write_to(seat, id, value),
+        match value {
+            Value::Int(value) => write_seat(&mut self.graph, sort, key, id, Value::Int(value)),
+            Value::Bool(value) => self.write_bool(sort, map, key, id, value),
+            Value::Text(value) => write_seat(&mut self.graph, sort, key, id, Value::Text(value)),
         }
     }
-}
 
-/// Writes a value to what a seat holds.
-fn write_to<B: Observer>(seat: &mut Seat<B>, id: u32, value: Value)
-    requires role { Plays (role_of (kind_for (type_for value)))
-        (⟦<Seat<B> as Observer>⟧.watch seat.old).seen }
-    requires live { HasItem value id (⟦<Seat<B> as Observer>⟧.watch seat.old).seen }
-    ensures seen { let old = (⟦<Seat<B> as Observer>⟧.watch seat.old).seen in
-        (⟦<Seat<B> as Observer>⟧.watch seat.new).seen ≡ holding (held_with value id old) old }
-    ensures fits { StillFits (⟦<Seat<B> as Observer>⟧.watch seat.old).seen
-        (⟦<Seat<B> as Observer>⟧.watch seat.new).seen }
-{
-    match value {
-        Value::Int(value) => seat.set_int(id, value),
-        Value::Bool(value) => seat.set_bool(id, value),
-        Value::Text(value) => {
-            let _ = seat.set_text(id, value);
+    // Writes a bool of a live item to the map whose seat has the key, and to each index of it.
+    fn write_bool(&mut self, sort: ItemSort, map: &Text, key: SeatKey, id: u32, value: bool)
+        requires in_step { AreInStep ⟦<Seat<B> as Observer>⟧.watch self.old }
+        requires live { IsLive self.old.graph.graph.graph sort id }
+        requires of_type { HasType (plain_of ⟦<Seat<B> as Observer>⟧.watch self.old) sort map.now
+            MapType.Bools }
+        requires row { (row : MapRow) × (entry (tables_of self.old sort).maps.rows map.now
+            ≡ Some row) × (row.key ≡ key) }
+        requires differ { NamesDiffer (tables_of self.old sort).maps.rows }
+        ensures written { plain_of ⟦<Seat<B> as Observer>⟧.watch self.new
+            ≡ with_map_changed (plain_of ⟦<Seat<B> as Observer>⟧.watch self.old) sort map.now
+            (put_at (Value.Bool value) id) }
+        ensures in_step { AreInStep ⟦<Seat<B> as Observer>⟧.watch self.new }
+        ensures graph { self.new.graph.graph ≡ self.old.graph.graph }
+        ensures pool { self.new.pool ≡ self.old.pool }
+    {
+        write_seat(&mut self.graph, sort, key, id, Value::Bool(value));
+        for place in 0..self.tables(sort).maps.len() {
+            if let Some(index) = index_key(self.tables(sort).maps.value(place), map) {
+                write_true(&mut self.graph, sort, index, id, value);
+            }
         }
     }
 }

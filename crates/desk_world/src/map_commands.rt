@@ -88,7 +88,7 @@ impl<B: Observer> World<Seat<B>> {
         Ok(Reply::Value(self.value_text(alloc, sort, map, id)?))
     }
 
-    /// Drops a map. No view and no index is there that could read it.
+    /// Drops a map, which no view and no index reads.
     pub(crate) fn drop_map(
         &mut self,
         alloc: Global,
@@ -108,6 +108,7 @@ impl<B: Observer> World<Seat<B>> {
         if is_label(name) {
             return Err(wrong_type(alloc, name));
         }
+        self.ask_unread(alloc, sort, name)?;
         self.remove_map(sort, name);
         Ok(Reply::Quiet)
     }

@@ -38,6 +38,16 @@ pub fn wrong_type(alloc: Global, name: &Text) -> StepFault
     }
 }
 
+/// The map or the view is read by another.
+pub fn in_use(alloc: Global, user: &Text) -> StepFault
+    ensures { Is (Some (faults.InUse user.now)) result }
+{
+    match copy_text(alloc, user.as_bytes()) {
+        Ok(user) => StepFault::Refused(Fault::InUse(user)),
+        Err(_) => StepFault::Memory,
+    }
+}
+
 /// The text at the item is no value of the map's type.
 pub fn bad_value(alloc: Global, item: &Text, text: &Text) -> StepFault
     ensures { Is (Some (faults.BadValue item.now text.now)) result }

@@ -10,14 +10,13 @@ ghost use Rattle.plain_world.specs.Documents.{doc_of, cells_of};
 ghost use Rattle.desk_world.specs.Plain.{plain_of};
 ghost use Rattle.desk_world.specs.InStep.{IsInStep};
 
-use crate::documents::{has_values, plain_text};
+use crate::documents::has_values;
 use crate::world::World;
 use base_items::ItemSort;
 use desk_seats::Seat;
 use lgf_file::{push_attribute, push_cell, push_head, push_row};
 use observe_core::Observer;
 use std::alloc::{AllocError, Global};
-use token_text::copy_text;
 
 impl<B: Observer> World<Seat<B>> {
     /// The graph file of the world: that of its document, from what the world holds. It fails only
@@ -129,15 +128,13 @@ impl<B: Observer> World<Seat<B>> {
             let own = lines.attribute_lines (doc_of world).attributes in
             OnOk result (out.new.items ≡ out.old.items ++ flat_map ended own) }
     {
-        let attributes = &self.attributes;
-        if attributes.len() == 0 {
+        let attributes = self.copy_attributes(alloc)?;
+        if attributes.is_empty() {
             return Ok(());
         }
         out.extend_from_slice(b"@attributes\n")?;
-        for place in 0..attributes.len() {
-            let name = copy_text(alloc, attributes.name(place).as_bytes())?;
-            let text = copy_text(alloc, plain_text(attributes.value(place)).as_bytes())?;
-            push_attribute(out, &(name, text))?;
+        for attribute in attributes.as_slice() {
+            push_attribute(out, attribute)?;
         }
         Ok(())
     }

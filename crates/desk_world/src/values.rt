@@ -1,7 +1,7 @@
 //! Values of maps, and their texts.
 
 ghost use Rattle.std.specs.Prelude.{◌≡◌, true, IfOk, IfErr, OnOk};
-ghost use Rattle.std.specs.Fmt.{signed_decimal};
+ghost use Rattle.std.specs.Fmt.{decimal, signed_decimal};
 ghost use Rattle.report_text.specs.declared.faults.Fault.TheVariants as faults;
 ghost use Rattle.plain_world.specs.Refusals.{unless};
 ghost use Rattle.plain_world.specs.Values.{spells, bool_text};
@@ -53,6 +53,14 @@ pub fn read_value(
 /// The int in decimal, with a sign where it is below 0.
 pub fn int_text(alloc: Global, value: i64) -> Result<Text, AllocError>
     ensures { IfOk result (λ text. text ≡ signed_decimal value) }
+{
+    let mut buffer = Buffer::new();
+    copy_text(alloc, buffer.format(value).as_bytes())
+}
+
+/// The number in decimal.
+pub fn count_text(alloc: Global, value: u32) -> Result<Text, AllocError>
+    ensures { IfOk result (λ text. text ≡ decimal value) }
 {
     let mut buffer = Buffer::new();
     copy_text(alloc, buffer.format(value).as_bytes())

@@ -1,6 +1,7 @@
 //! Rows of the program over memory, a file for each subject.
 
 mod alterations;
+mod derived;
 mod faults;
 mod graphs;
 mod guards;
@@ -61,6 +62,11 @@ const CHAIN: &[u8] = b"@nodes\nlabel\nu\nv\nw\n@arcs\nlabel cap\nu v a 5\nv w b 
 
 const LOOPS: &[u8] =
     b"@nodes\nlabel\nu\nv\nw\n@arcs\nlabel\nu v p\nv u q\nu u r\nv v s\nv w t\nw v x\n";
+
+// A file as it is written.
+const STATIONS: &[u8] = b"@nodes\nlabel\ttitle\t\n0\t\"North gate\"\t\n1\tDepot\t\n\
+    2\t\"Say \\\"hi\\\"\"\t\n@arcs\n\t\tlabel\tcapacity\tcost\t\n0\t1\t0\t16\t4\t\n\
+    0\t2\t1\t12\t-2\t\n1\t2\t2\t20\t0\t\n@attributes\nsource 0\ntarget 2\n";
 
 fn words_of(alloc: Global, texts: &[&[u8]]) -> Result<Vec<Vec<u8>>, AllocError> {
     let mut words = Vec::new(alloc);

@@ -1,13 +1,8 @@
 //! Saves.
 
-use super::{JOINED, JOINED_SAVED, PLAIN, Row, check_rows};
+use super::{JOINED, JOINED_SAVED, PLAIN, Row, STATIONS, check_rows};
 use plain_machine::Status;
 use std::test::Fail;
-
-// A file as it is written.
-const STATIONS: &[u8] = b"@nodes\nlabel\ttitle\t\n0\t\"North gate\"\t\n1\tDepot\t\n\
-    2\t\"Say \\\"hi\\\"\"\t\n@arcs\n\t\tlabel\tcapacity\tcost\t\n0\t1\t0\t16\t4\t\n\
-    0\t2\t1\t12\t-2\t\n1\t2\t2\t20\t0\t\n@attributes\nsource 0\ntarget 2\n";
 
 const FRONTED: &[u8] = b"@nodes\nlabel\ttitle\t\nn\t\"North gate\"\t\nd\tDepot\t\ne\t\"\"\t\n\
     @arcs\n\t\tlabel\tcap\tcost\t\nn\td\tx\t16\t4\t\nd\te\t\"y z\"\t\"\"\t\"\"\t\n";

@@ -41,9 +41,9 @@ returns g c =
     let told : fact_of graph Arc id ≡ Some c.in-Some.fact =
     sym (c.fact.ensures ∙ ap (λ (r : Roomy). fact_of r.graph Arc id) c.graph.ensures)
     ∙ c.in-Some.is in
-    let name = c.in_ok-name.ensures ∙ c.as_bytes.ensures ∙ c.label_in-label.ensures in
-    let from = c.in_ok-from.ensures ∙ c.as_bytes-2.ensures ∙ c.label_in-source.ensures
+    let name = c.in_ok-name.ensures.cases ∙ c.label_in-label.ensures in
+    let from = c.in_ok-from.ensures.cases ∙ c.label_in-source.ensures
     ∙ ap (label_of world Node) (source_told graph id c.in-Some.fact told) in
-    let to = c.in_ok-to.ensures ∙ c.as_bytes-3.ensures ∙ c.label_in-target.ensures
+    let to = c.in_ok-to.ensures.cases ∙ c.label_in-target.ensures
     ∙ ap (label_of world Node) (target_told graph id c.in-Some.fact told) in
     (λ i. record { id = id; name = name i; from = from i; to = to i })

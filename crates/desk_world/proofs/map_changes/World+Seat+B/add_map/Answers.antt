@@ -4,7 +4,8 @@ use Rattle.plain_world.specs.World.{attached}
 use Rattle.plain_world.specs.Effects.{with_map, new_map}
 use Rattle.desk_seats.specs.contracts.seat.SeatObserver.TheImpl.{watch-value}
 use Rattle.desk_world.specs.Plain.{plain_of}
-use Rattle.desk_world.proofs.MapCalls.{if_err, room_keeps, refused_keeps, still_new, came_whole}
+use Rattle.desk_world.proofs.MapCalls.{if_err, room_keeps, refused_keeps, still_new}
+use Rattle.desk_world.proofs.MapsMade.{map_made}
 use Rattle.desk_world.proofs.map_changes.World+Seat+B.add_map.Goals as goal
 
 pub returns-in_err-reserve_map-clause-same : goal.returns-in_err-reserve_map-clause-same
@@ -92,9 +93,9 @@ put_map-requires-clause-room g c =
 pub returns-clause-made : goal.returns-clause-made
 returns-clause-made g c =
     let w = (watch-value g.row.B g.B.Observer g.B.Observer-dict g.B.Destruct-dict).it in
-    let came = came_whole w c.args.sort c.args.self.now c.reserve_map.new.self c.requires.in_step
+    let came = map_made w c.args.sort c.args.self.now c.reserve_map.new.self c.requires.in_step
     c.reserve_map.ensures.same c.reserve_map.ensures.rows c.attach.new.graph c.put_map.new.self
-    c.in_ok-name.name (record { kind = c.kind_of-kind.result; key = c.in_ok-key.key }) c.args.kind
+    c.in_ok-name.name c.kind_of-kind.result c.in_ok-key.key c.args.kind
     (w c.empty_map.result) c.put_map.ensures.same c.put_map.ensures.rows c.kind_of-kind.ensures
     c.in_ok-key.ensures.attaches c.attach.ensures.in_step c.empty_map.ensures.role in
     let copied = c.in_ok-name.ensures ∙ c.as_bytes.ensures in
@@ -104,9 +105,9 @@ returns-clause-made g c =
 pub returns-clause-in_step : goal.returns-clause-in_step
 returns-clause-in_step g c =
     let w = (watch-value g.row.B g.B.Observer g.B.Observer-dict g.B.Destruct-dict).it in
-    let came = came_whole w c.args.sort c.args.self.now c.reserve_map.new.self c.requires.in_step
+    let came = map_made w c.args.sort c.args.self.now c.reserve_map.new.self c.requires.in_step
     c.reserve_map.ensures.same c.reserve_map.ensures.rows c.attach.new.graph c.put_map.new.self
-    c.in_ok-name.name (record { kind = c.kind_of-kind.result; key = c.in_ok-key.key }) c.args.kind
+    c.in_ok-name.name c.kind_of-kind.result c.in_ok-key.key c.args.kind
     (w c.empty_map.result) c.put_map.ensures.same c.put_map.ensures.rows c.kind_of-kind.ensures
     c.in_ok-key.ensures.attaches c.attach.ensures.in_step c.empty_map.ensures.role in
     came.in_step
@@ -114,9 +115,9 @@ returns-clause-in_step g c =
 pub returns-clause-graph : goal.returns-clause-graph
 returns-clause-graph g c =
     let w = (watch-value g.row.B g.B.Observer g.B.Observer-dict g.B.Destruct-dict).it in
-    let came = came_whole w c.args.sort c.args.self.now c.reserve_map.new.self c.requires.in_step
+    let came = map_made w c.args.sort c.args.self.now c.reserve_map.new.self c.requires.in_step
     c.reserve_map.ensures.same c.reserve_map.ensures.rows c.attach.new.graph c.put_map.new.self
-    c.in_ok-name.name (record { kind = c.kind_of-kind.result; key = c.in_ok-key.key }) c.args.kind
+    c.in_ok-name.name c.kind_of-kind.result c.in_ok-key.key c.args.kind
     (w c.empty_map.result) c.put_map.ensures.same c.put_map.ensures.rows c.kind_of-kind.ensures
     c.in_ok-key.ensures.attaches c.attach.ensures.in_step c.empty_map.ensures.role in
     came.graph
@@ -124,9 +125,9 @@ returns-clause-graph g c =
 pub returns-clause-pool : goal.returns-clause-pool
 returns-clause-pool g c =
     let w = (watch-value g.row.B g.B.Observer g.B.Observer-dict g.B.Destruct-dict).it in
-    let came = came_whole w c.args.sort c.args.self.now c.reserve_map.new.self c.requires.in_step
+    let came = map_made w c.args.sort c.args.self.now c.reserve_map.new.self c.requires.in_step
     c.reserve_map.ensures.same c.reserve_map.ensures.rows c.attach.new.graph c.put_map.new.self
-    c.in_ok-name.name (record { kind = c.kind_of-kind.result; key = c.in_ok-key.key }) c.args.kind
+    c.in_ok-name.name c.kind_of-kind.result c.in_ok-key.key c.args.kind
     (w c.empty_map.result) c.put_map.ensures.same c.put_map.ensures.rows c.kind_of-kind.ensures
     c.in_ok-key.ensures.attaches c.attach.ensures.in_step c.empty_map.ensures.role in
     came.pool

@@ -1,8 +1,6 @@
-use Rattle.std.proofs.Common.{◌≡◌, Some, refl, sym, ap, ◌∙◌, subst}
+use Rattle.std.proofs.Common.{refl, sym, ap, ◌∙◌}
 use Rattle.std.specs.Prelude.{map, slice_get}
-use Rattle.plain_world.specs.Tables.{Named}
 use Rattle.desk_world.specs.declared.tables.ItemTables.{ItemTables}
-use Rattle.desk_world.specs.declared.tables.MapRow.{MapRow}
 use Rattle.desk_world.proofs.TableRows.{row_below, entry_at}
 use Rattle.desk_world.proofs.map_changes.World+Seat+B.write_at.Goals as goal
 

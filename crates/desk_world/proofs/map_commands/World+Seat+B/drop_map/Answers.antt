@@ -8,7 +8,7 @@ use Rattle.plain_world.proofs.CommandsKept.{commands_kept}
 use Rattle.desk_world.specs.Faults.{Answers}
 use Rattle.desk_world.proofs.Handed.{handed_on}
 use Rattle.desk_world.proofs.MapCommands.{drop_step, left}
-use Rattle.desk_world.proofs.MapRefusals.{drop_unknown, drop_label, no_stamps}
+use Rattle.desk_world.proofs.MapRefusals.{drop_unknown, drop_label, drop_used, no_stamps}
 use Rattle.desk_world.proofs.map_commands.World+Seat+B.drop_map.Goals as goal
 
 pub returns-in_err-ask_map-clause-step : goal.returns-in_err-ask_map-clause-step
@@ -26,28 +26,37 @@ returns-then-is_label-clause-step g c =
     drop_label world c.args.sort c.args.name.now c.wrong_type.result c.in_ok-ask_map.ensures
     (sym c.is_label.ensures ∙ c.if-is_label.true) c.wrong_type.ensures
 
-pub remove_map-requires : goal.remove_map-requires
-remove_map-requires g c =
+pub returns-in_err-ask_unread-clause-step : goal.returns-in_err-ask_unread-clause-step
+returns-in_err-ask_unread-clause-step g c =
     let w = (watch-value g.row.B g.B.Observer g.B.Observer-dict g.B.Destruct-dict).it in
     let world = plain_of w c.args.self.now in
-    record { in_step = c.requires.in_step.seats }
+    handed_on (Answers world (command.DropMap c.args.sort c.args.name.now) world)
+    c.from_residual-in_err-ask_unread.result _ c.from_residual-in_err-ask_unread.ensures.1
+    (drop_used world c.args.sort c.args.name.now _ c.in_ok-ask_map.ensures
+    (sym c.is_label.ensures ∙ c.if-is_label.false) c.in_err-ask_unread.ensures)
+
+pub remove_map-requires-clause-in_step : goal.remove_map-requires-clause-in_step
+remove_map-requires-clause-in_step g c = c.requires.in_step.seats
+
+pub remove_map-requires-clause-unread : goal.remove_map-requires-clause-unread
+remove_map-requires-clause-unread g c = c.in_ok-ask_unread.ensures
 
 pub returns-clause-step : goal.returns-clause-step
 returns-clause-step g c =
     let w = (watch-value g.row.B g.B.Observer g.B.Observer-dict g.B.Destruct-dict).it in
     let world = plain_of w c.args.self.now in
-    let step = drop_step w c.args.self.now c.requires.in_step.seats c.args.sort c.args.name.now
-    (plain_of w c.remove_map.new.self) c.in_ok-ask_map.ensures
-    (sym c.is_label.ensures ∙ c.if-is_label.false) c.remove_map.ensures.gone in
+    let step = drop_step world (plain_of w c.remove_map.new.self) c.args.sort c.args.name.now
+    c.in_ok-ask_map.ensures (sym c.is_label.ensures ∙ c.if-is_label.false)
+    c.in_ok-ask_unread.ensures c.remove_map.ensures.gone in
     step
 
 pub returns-clause-in_step : goal.returns-clause-in_step
 returns-clause-in_step g c =
     let w = (watch-value g.row.B g.B.Observer g.B.Observer-dict g.B.Destruct-dict).it in
     let world = plain_of w c.args.self.now in
-    let step = drop_step w c.args.self.now c.requires.in_step.seats c.args.sort c.args.name.now
-    (plain_of w c.remove_map.new.self) c.in_ok-ask_map.ensures
-    (sym c.is_label.ensures ∙ c.if-is_label.false) c.remove_map.ensures.gone in
+    let step = drop_step world (plain_of w c.remove_map.new.self) c.args.sort c.args.name.now
+    c.in_ok-ask_map.ensures (sym c.is_label.ensures ∙ c.if-is_label.false)
+    c.in_ok-ask_unread.ensures c.remove_map.ensures.gone in
     record {
       seats = c.remove_map.ensures.in_step;
       valid = commands_kept world (plain_of w c.remove_map.new.self)

@@ -4,8 +4,7 @@ use Rattle.std.proofs.lemmas.Result.{IfOk-weaker}
 use Rattle.plain_world.specs.Tables.{entry}
 use Rattle.desk_seats.specs.contracts.seat.SeatObserver.TheImpl.{watch-value}
 use Rattle.desk_world.specs.declared.tables.ItemTables.{ItemTables}
-use Rattle.desk_world.proofs.MapsFound.{map_found}
-use Rattle.desk_world.proofs.MapsTold.{reply_label, reply_missing, reply_row}
+use Rattle.desk_world.proofs.MapsTold.{reply_label, reply_missing, reply_row, reply_told}
 use Rattle.desk_world.proofs.TableRows.{listed_entry}
 use Rattle.desk_world.proofs.maps.World+Seat+B.value_text.Goals as goal
 
@@ -17,6 +16,16 @@ returns-then-is_label g c =
     IfOk-weaker c.copy_text.result _ _
     (λ text is. is ∙ c.as_bytes.ensures ∙ c.label_of.ensures ∙ sym label) c.copy_text.ensures
 
+pub returns-in_default : goal.returns-in_default
+returns-in_default g c =
+    let w = (watch-value g.row.B g.B.Observer g.B.Observer-dict g.B.Destruct-dict).it in
+    let map = c.args.map.now in
+    let found = sym (ap (λ (t : ItemTables). entry t.maps.rows map) c.tables.ensures)
+    ∙ sym c.get.ensures.found ∙ ap option_copied c.in_default.is in
+    c.new.ensures
+    ∙ sym (reply_missing w c.args.self.now c.args.sort map c.args.id c.requires.in_step.seats
+    (sym c.is_label.ensures ∙ c.if-is_label.false) found)
+
 pub row_text-requires-clause-row : goal.row_text-requires-clause-row
 row_text-requires-clause-row g c =
     let map = c.args.map.now in
@@ -25,16 +34,10 @@ row_text-requires-clause-row g c =
     listed_entry _ map c.in-Some.row.now found
 
 pub row_text-requires-clause-values : goal.row_text-requires-clause-values
-row_text-requires-clause-values g c =
-    let w = (watch-value g.row.B g.B.Observer g.B.Observer-dict g.B.Destruct-dict).it in
-    let map = c.args.map.now in
-    let found = sym (ap (λ (t : ItemTables). entry t.maps.rows map) c.tables.ensures)
-    ∙ sym c.get.ensures.found ∙ ap option_copied c.in-Some.is in
-    (map_found w c.args.self.now c.requires.in_step.seats c.args.sort map c.in-Some.row.now
-    found).values
+row_text-requires-clause-values g c = sym c.has_values.ensures ∙ c.if-has_values.true
 
-pub returns-in-Some : goal.returns-in-Some
-returns-in-Some g c =
+pub returns-then-has_values : goal.returns-then-has_values
+returns-then-has_values g c =
     let w = (watch-value g.row.B g.B.Observer g.B.Observer-dict g.B.Destruct-dict).it in
     let map = c.args.map.now in
     let found = sym (ap (λ (t : ItemTables). entry t.maps.rows map) c.tables.ensures)
@@ -42,15 +45,27 @@ returns-in-Some g c =
     IfOk-weaker c.row_text.result _ _
     (λ text told. reply_row w c.args.self.now c.args.sort map c.args.id
     c.requires.in_step.seats (sym c.is_label.ensures ∙ c.if-is_label.false) c.in-Some.row.now found
-    text told)
+    (sym c.has_values.ensures ∙ c.if-has_values.true) text told)
     c.row_text.ensures
 
-pub returns-in-None : goal.returns-in-None
-returns-in-None g c =
+pub derived_text-requires-clause-row : goal.derived_text-requires-clause-row
+derived_text-requires-clause-row g c =
+    let map = c.args.map.now in
+    let found = sym (ap (λ (t : ItemTables). entry t.maps.rows map) c.tables.ensures)
+    ∙ sym c.get.ensures.found ∙ ap option_copied c.in-Some.is in
+    listed_entry _ map c.in-Some.row.now found
+
+pub derived_text-requires-clause-values : goal.derived_text-requires-clause-values
+derived_text-requires-clause-values g c = sym c.has_values.ensures ∙ c.if-has_values.false
+
+pub returns : goal.returns
+returns g c =
     let w = (watch-value g.row.B g.B.Observer g.B.Observer-dict g.B.Destruct-dict).it in
     let map = c.args.map.now in
     let found = sym (ap (λ (t : ItemTables). entry t.maps.rows map) c.tables.ensures)
-    ∙ sym c.get.ensures.found ∙ ap option_copied c.in-None.is in
-    c.new.ensures
-    ∙ sym (reply_missing w c.args.self.now c.args.sort map c.args.id c.requires.in_step.seats
-    (sym c.is_label.ensures ∙ c.if-is_label.false) found)
+    ∙ sym c.get.ensures.found ∙ ap option_copied c.in-Some.is in
+    IfOk-weaker c.derived_text.result _ _
+    (λ text told. reply_told w c.args.self.now c.args.sort map c.args.id
+    c.requires.in_step.seats (sym c.is_label.ensures ∙ c.if-is_label.false) c.in-Some.row.now found
+    text told)
+    c.derived_text.ensures

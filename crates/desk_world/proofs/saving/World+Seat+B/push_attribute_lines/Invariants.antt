@@ -1,12 +1,10 @@
-use Rattle.std.proofs.Common.{◌≡◌, ◌++◌, take}
+use Rattle.std.proofs.Common.{◌≡◌, ◌++◌, take, map}
 use Rattle.std.specs.List.{flat_map}
-use Rattle.desk_seats.specs.contracts.seat.SeatObserver.TheImpl.{watch-value}
-use Rattle.desk_world.proofs.DocParts.{attributes_of}
-use Rattle.desk_world.proofs.SavedAttributes.{attribute_line}
+use Rattle.token_text.specs.Lines.{ended}
+use Rattle.lgf_file.specs.Plain.{attribute_text}
 use Rattle.desk_world.proofs.saving.World+Seat+B.push_attribute_lines.Given as goal
 
-abbrev pub invariant-loop-place : goal.invariant-loop-place
-invariant-loop-place g l =
-    let w = (watch-value g.row.B g.B.Observer g.B.Observer-dict g.B.Destruct-dict).it in
-    let rows = take l.place l.self.attributes.rows in
-    l.out.items ≡ l.initial.out.items ++ flat_map attribute_line (attributes_of w l.self rows)
+abbrev pub invariant-loop-attribute : goal.invariant-loop-attribute
+invariant-loop-attribute g l =
+    let texts = map attribute_text (take l.attribute-index l.attribute-items) in
+    l.out.items ≡ l.initial.out.items ++ flat_map ended texts

@@ -13,6 +13,12 @@ new_map-requires-clause-name g c = subst IsValid c.in-NodeMap.is c.requires.vali
 pub new_map-requires-in-ArcMap-clause-name : goal.new_map-requires-in-ArcMap-clause-name
 new_map-requires-in-ArcMap-clause-name g c = subst IsValid c.in-ArcMap.is c.requires.valid
 
+pub new_degree-requires-clause-name : goal.new_degree-requires-clause-name
+new_degree-requires-clause-name g c = subst IsValid c.in-Degree.is c.requires.valid
+
+pub new_index-requires-clause-name : goal.new_index-requires-clause-name
+new_index-requires-clause-name g c = subst IsValid c.in-Trues.is c.requires.valid
+
 pub returns-in-AddNode : goal.returns-in-AddNode
 returns-in-AddNode g c =
     let w = (watch-value g.row.B g.B.Observer g.B.Observer-dict g.B.Destruct-dict).it in
@@ -208,6 +214,21 @@ returns-in-ArcMap g c =
       stamps = c.new_map-in-ArcMap.ensures.stamps;
     }
 
+pub returns-in-Retype : goal.returns-in-Retype
+returns-in-Retype g c =
+    let w = (watch-value g.row.B g.B.Observer g.B.Observer-dict g.B.Destruct-dict).it in
+    let old = plain_of w c.args.self.now in
+    let new = plain_of w c.retype.new.self in
+    let asked = commands.Retype c.in-Retype.sort c.in-Retype.map c.in-Retype.kind in
+    record {
+      answered = answered_by old new c.args.command.now asked c.in-Retype.is c.retype.result
+          c.retype.ensures.step;
+      refused = refused_by old new c.args.command.now asked c.in-Retype.is c.retype.result
+          c.retype.ensures.step;
+      in_step = c.retype.ensures.in_step;
+      stamps = c.retype.ensures.stamps;
+    }
+
 pub returns-in-Set : goal.returns-in-Set
 returns-in-Set g c =
     let w = (watch-value g.row.B g.B.Observer g.B.Observer-dict g.B.Destruct-dict).it in
@@ -238,6 +259,51 @@ returns-in-Get g c =
       stamps = same_stamps _ _ refl;
     }
 
+pub returns-in-Degree : goal.returns-in-Degree
+returns-in-Degree g c =
+    let w = (watch-value g.row.B g.B.Observer g.B.Observer-dict g.B.Destruct-dict).it in
+    let old = plain_of w c.args.self.now in
+    let new = plain_of w c.new_degree.new.self in
+    let asked = commands.Degree c.in-Degree.name c.in-Degree.way in
+    record {
+      answered = answered_by old new c.args.command.now asked c.in-Degree.is c.new_degree.result
+          c.new_degree.ensures.step;
+      refused = refused_by old new c.args.command.now asked c.in-Degree.is c.new_degree.result
+          c.new_degree.ensures.step;
+      in_step = c.new_degree.ensures.in_step;
+      stamps = c.new_degree.ensures.stamps;
+    }
+
+pub returns-in-Trues : goal.returns-in-Trues
+returns-in-Trues g c =
+    let w = (watch-value g.row.B g.B.Observer g.B.Observer-dict g.B.Destruct-dict).it in
+    let old = plain_of w c.args.self.now in
+    let new = plain_of w c.new_index.new.self in
+    let asked = commands.Trues c.in-Trues.sort c.in-Trues.index c.in-Trues.map in
+    record {
+      answered = answered_by old new c.args.command.now asked c.in-Trues.is c.new_index.result
+          c.new_index.ensures.step;
+      refused = refused_by old new c.args.command.now asked c.in-Trues.is c.new_index.result
+          c.new_index.ensures.step;
+      in_step = c.new_index.ensures.in_step;
+      stamps = c.new_index.ensures.stamps;
+    }
+
+pub returns-in-Items : goal.returns-in-Items
+returns-in-Items g c =
+    let w = (watch-value g.row.B g.B.Observer g.B.Observer-dict g.B.Destruct-dict).it in
+    let old = plain_of w c.args.self.now in
+    let new = plain_of w c.args.self.now in
+    let asked = commands.Items c.in-Items.sort c.in-Items.index in
+    record {
+      answered = answered_by old new c.args.command.now asked c.in-Items.is c.items.result
+          c.items.ensures;
+      refused = refused_by old new c.args.command.now asked c.in-Items.is c.items.result
+          c.items.ensures;
+      in_step = c.requires.in_step;
+      stamps = same_stamps _ _ refl;
+    }
+
 pub returns-in-DropMap : goal.returns-in-DropMap
 returns-in-DropMap g c =
     let w = (watch-value g.row.B g.B.Observer g.B.Observer-dict g.B.Destruct-dict).it in
@@ -251,6 +317,51 @@ returns-in-DropMap g c =
           c.drop_map.ensures.step;
       in_step = c.drop_map.ensures.in_step;
       stamps = c.drop_map.ensures.stamps;
+    }
+
+pub returns-in-Total : goal.returns-in-Total
+returns-in-Total g c =
+    let w = (watch-value g.row.B g.B.Observer g.B.Observer-dict g.B.Destruct-dict).it in
+    let old = plain_of w c.args.self.now in
+    let new = plain_of w c.args.self.now in
+    let asked = commands.Total c.in-Total.sort c.in-Total.map in
+    record {
+      answered = answered_by old new c.args.command.now asked c.in-Total.is c.total.result
+          c.total.ensures;
+      refused = refused_by old new c.args.command.now asked c.in-Total.is c.total.result
+          c.total.ensures;
+      in_step = c.requires.in_step;
+      stamps = same_stamps _ _ refl;
+    }
+
+pub returns-in-Least : goal.returns-in-Least
+returns-in-Least g c =
+    let w = (watch-value g.row.B g.B.Observer g.B.Observer-dict g.B.Destruct-dict).it in
+    let old = plain_of w c.args.self.now in
+    let new = plain_of w c.args.self.now in
+    let asked = commands.Least c.in-Least.sort c.in-Least.map in
+    record {
+      answered = answered_by old new c.args.command.now asked c.in-Least.is c.least.result
+          c.least.ensures;
+      refused = refused_by old new c.args.command.now asked c.in-Least.is c.least.result
+          c.least.ensures;
+      in_step = c.requires.in_step;
+      stamps = same_stamps _ _ refl;
+    }
+
+pub returns-in-Count : goal.returns-in-Count
+returns-in-Count g c =
+    let w = (watch-value g.row.B g.B.Observer g.B.Observer-dict g.B.Destruct-dict).it in
+    let old = plain_of w c.args.self.now in
+    let new = plain_of w c.args.self.now in
+    let asked = commands.Count c.in-Count.sort c.in-Count.map in
+    record {
+      answered = answered_by old new c.args.command.now asked c.in-Count.is c.count.result
+          c.count.ensures;
+      refused = refused_by old new c.args.command.now asked c.in-Count.is c.count.result
+          c.count.ensures;
+      in_step = c.requires.in_step;
+      stamps = same_stamps _ _ refl;
     }
 
 pub guard-requires-clause-valid : goal.guard-requires-clause-valid
@@ -329,6 +440,66 @@ returns-in-Arcs g c =
           c.arcs_of.ensures;
       in_step = c.requires.in_step;
       stamps = same_stamps _ _ refl;
+    }
+
+pub returns-in-Tie : goal.returns-in-Tie
+returns-in-Tie g c =
+    let w = (watch-value g.row.B g.B.Observer g.B.Observer-dict g.B.Destruct-dict).it in
+    let old = plain_of w c.args.self.now in
+    let new = plain_of w c.tie.new.self in
+    let asked = commands.Tie c.in-Tie.attribute c.in-Tie.sort in
+    record {
+      answered = answered_by old new c.args.command.now asked c.in-Tie.is c.tie.result
+          c.tie.ensures.step;
+      refused = refused_by old new c.args.command.now asked c.in-Tie.is c.tie.result
+          c.tie.ensures.step;
+      in_step = c.tie.ensures.in_step;
+      stamps = c.tie.ensures.stamps;
+    }
+
+pub returns-in-Untie : goal.returns-in-Untie
+returns-in-Untie g c =
+    let w = (watch-value g.row.B g.B.Observer g.B.Observer-dict g.B.Destruct-dict).it in
+    let old = plain_of w c.args.self.now in
+    let new = plain_of w c.untie.new.self in
+    let asked = commands.Untie c.in-Untie.attribute in
+    record {
+      answered = answered_by old new c.args.command.now asked c.in-Untie.is c.untie.result
+          c.untie.ensures.step;
+      refused = refused_by old new c.args.command.now asked c.in-Untie.is c.untie.result
+          c.untie.ensures.step;
+      in_step = c.untie.ensures.in_step;
+      stamps = c.untie.ensures.stamps;
+    }
+
+pub returns-in-Attr : goal.returns-in-Attr
+returns-in-Attr g c =
+    let w = (watch-value g.row.B g.B.Observer g.B.Observer-dict g.B.Destruct-dict).it in
+    let old = plain_of w c.args.self.now in
+    let new = plain_of w c.args.self.now in
+    let asked = commands.Attr c.in-Attr.attribute in
+    record {
+      answered = answered_by old new c.args.command.now asked c.in-Attr.is c.attr.result
+          c.attr.ensures;
+      refused = refused_by old new c.args.command.now asked c.in-Attr.is c.attr.result
+          c.attr.ensures;
+      in_step = c.requires.in_step;
+      stamps = same_stamps _ _ refl;
+    }
+
+pub returns-in-Relabel : goal.returns-in-Relabel
+returns-in-Relabel g c =
+    let w = (watch-value g.row.B g.B.Observer g.B.Observer-dict g.B.Destruct-dict).it in
+    let old = plain_of w c.args.self.now in
+    let new = plain_of w c.relabel.new.self in
+    let asked = commands.Relabel c.in-Relabel.sort c.in-Relabel.old c.in-Relabel.new in
+    record {
+      answered = answered_by old new c.args.command.now asked c.in-Relabel.is c.relabel.result
+          c.relabel.ensures.step;
+      refused = refused_by old new c.args.command.now asked c.in-Relabel.is c.relabel.result
+          c.relabel.ensures.step;
+      in_step = c.relabel.ensures.in_step;
+      stamps = c.relabel.ensures.stamps;
     }
 
 pub returns-in-Save : goal.returns-in-Save

@@ -4,7 +4,7 @@ use Rattle.desk_seats.specs.contracts.seat.SeatObserver.TheImpl.{watch-value}
 use Rattle.desk_world.specs.Claims.{Plays}
 use Rattle.desk_world.specs.Values.{HasItem, held_with}
 use Rattle.desk_world.proofs.MapsWritten.{own_role}
-use Rattle.desk_world.proofs.map_changes.write_to.Goals as goal
+use Rattle.desk_world.proofs.seat_writes.write_to.Goals as goal
 
 pub set_int-requires-clause-form : goal.set_int-requires-clause-form
 set_int-requires-clause-form g c =

@@ -1,0 +1,441 @@
+-- A world in which a value was written to a map, and to each index of it.
+use Rattle.std.proofs.Common.{◌≡◌, ℕ, ◌+◌, ◌≤◌, Bool, true, false, cond, List, [], ◌∷◌, ◌++◌, map}
+use Rattle.std.proofs.Common.{length, refl, sym, ap, subst, Option, Some, ◌∙◌, arith}
+use Rattle.std.specs.Prelude.{option_map, slice_get, find}
+use Rattle.std.specs.Str.{bytes_eq}
+use Rattle.std.proofs.lemmas.Bool.{true≢false}
+use Rattle.std.proofs.lemmas.List.{append-nil, append_assoc}
+use Rattle.std.proofs.lemmas.Option.{none-some, same_Some}
+use Rattle.std.proofs.lemmas.Slice.Eq.{bytes_eq-Decides}
+use Rattle.base_items.specs.declared.items.ItemSort.{ItemSort}
+use Rattle.plain_digraph.specs.Lists.{AllOf}
+use Rattle.plain_digraph.specs.Rising.{swapped}
+use Rattle.observe_core.specs.Held.{Entry, entry_id}
+use Rattle.observe_core.specs.Seen.{Seen, Watched}
+use Rattle.columns.specs.Views.{entry as with_value}
+use Rattle.alter_graph.specs.Chains.{ChainsSeen, chains_seen}
+use Rattle.alter_graph.specs.State as states
+use Rattle.alter_graph.specs.State.{AlterOf, state_of}
+use Rattle.plain_world.specs.Tables.{Name, Named, under, is_named, entry, with_change}
+use Rattle.plain_world.specs.World as plain
+use Rattle.plain_world.specs.Effects.{with_maps, with_map_changed}
+use Rattle.desk_world.specs.declared.tables.MapKind.{MapKind}
+use Rattle.desk_world.specs.declared.tables.MapKind.TheVariants as maps
+use Rattle.desk_world.specs.declared.tables.MapRow.{MapRow}
+use Rattle.desk_world.specs.declared.values.Value.{Value}
+use Rattle.desk_world.specs.declared.values.Value.TheVariants as values
+use Rattle.desk_world.specs.declared.world.World.{World}
+use Rattle.desk_world.specs.Claims as claims
+use Rattle.desk_world.specs.Claims.{Plays, Sits, ClaimsDiffer, claims_of, role_of}
+use Rattle.desk_world.specs.Derived.{AreIndexed, IsIndexed, bools_seen, trues_seen}
+use Rattle.desk_world.specs.Indexes.{is_index_kind, trues_with}
+use Rattle.desk_world.specs.InStep.{AreInStep, AreSeated}
+use Rattle.desk_world.specs.Looks.{Look, look_in}
+use Rattle.desk_world.specs.Plain.{plain_of, look_of, kinds_of, tables_of, map_seen, seat_sort}
+use Rattle.desk_world.specs.Plain.{held_by, world_seen}
+use Rattle.desk_world.specs.Seating.{Puts}
+use Rattle.desk_world.specs.Values.{put_at}
+use Rattle.desk_world.proofs.Changing.{looked_changed, ChangesAt}
+use Rattle.desk_world.proofs.Indexed.{derived_with}
+use Rattle.desk_world.proofs.MapTables.{same_rows_world, claims_with, claims_are, maps_seen}
+use Rattle.desk_world.proofs.MapTables.{maps_plain, plain_later, rows_in_step, with_rows}
+use Rattle.desk_world.proofs.MapsComing.{own_indexes}
+use Rattle.desk_world.proofs.MapsWritten.{AreKept, RowShows, Shows, EntriesShow, bools_with}
+use Rattle.desk_world.proofs.MapsWritten.{row_passes, rows_stay, front_same, back_same, others_same}
+use Rattle.desk_world.proofs.Putting.{seen_put, seated_put}
+use Rattle.desk_world.proofs.Relabelled.{Agrees}
+use Rattle.desk_world.proofs.Seated.{all_right, all_both, all_so, all_and, maps_sit}
+
+-- ---- rows
+
+-- what holds of all rows holds of what stands under a name
+of_named : {X : Type 0} (P : Named X → Type 0) (table : List (Named X)) (name : Name) (x : X)
+    → AllOf P table → entry table name ≡ Some x → P (under name x)
+of_named P [] name x all found = absurd (none-some x found)
+of_named {X} P (e ∷ es) name x all found =
+    let rest = of_named P es name x all.1 in
+    elim (bytes_eq e.name name) as (λ b. bytes_eq e.name name ≡ b
+    → option_map (λ (f : Named X). f.value) (cond b (Some e) (find (is_named name) es)) ≡ Some x
+    → P (under name x)) [
+      | true ↦ λ same is.
+          let own : e.name ≡ name = (bytes_eq-Decides e.name name).0 same in
+          let value : e.value ≡ x = same_Some e.value x is in
+          subst (λ (f : Named X). P f) (λ i. under (own i) (value i)) all.0
+      | false ↦ λ other is. rest is
+    ] refl found
+
+-- the first row of those that are ahead
+pub record Next {X : Type 0} (ahead : List (Named X)) (value : X) : Type 0 where
+  pub e : Named X
+  pub rest : List (Named X)
+  pub is : ahead ≡ e ∷ rest
+  pub has : e.value ≡ value
+
+pub next_row : {X : Type 0} (done ahead : List (Named X)) (value : X)
+    → slice_get (map (λ (e : Named X). e.value) (done ++ ahead)) (length done) ≡ Some value
+    → Next ahead value
+next_row [] [] value at = absurd (none-some value at)
+next_row [] (e ∷ rest) value at =
+    record { e = e; rest = rest; is = refl; has = same_Some e.value value at }
+next_row (d ∷ done) ahead value at = next_row done ahead value at
+
+none_ahead : {X : Type 0} (done ahead : List X) → length (done ++ ahead) ≤ length done
+    → ahead ≡ []
+none_ahead [] [] few = refl
+none_ahead [] (e ∷ rest) few = absurd (omega (arith, few))
+none_ahead (d ∷ done) ahead few = none_ahead done ahead (omega (arith, few))
+
+one_longer : {X : Type 0} (done : List X) (e : X) → length (done ++ e ∷ []) ≡ length done + 1
+one_longer [] e = refl
+one_longer (d ∷ done) e = let rest = one_longer done e in omega (arith, rest)
+
+module _ {O : Type 0} (watch : O → Watched) (w : World O) (sort : ItemSort) (name : Name)
+    (key : ℕ) (value : Value) (id : ℕ) where
+  -- the row shows the map of the key with the value, and an index of it once it was written
+  abbrev pub RowIs : Bool → AlterOf O → Named MapRow → Type 0
+  RowIs done a =
+      Shows (look_of watch w) sort name value id
+      (bools_with value id (bools_seen (look_of watch w sort key))) done
+      (look_in (chains_seen watch a.chains))
+
+  -- the rows before the place were written, and the others not yet
+  pub record IsWriting (place : ℕ) (a : AlterOf O) : Type 0 where
+    pub kept : AreKept watch w sort a
+    pub done : List (Named MapRow)
+    pub ahead : List (Named MapRow)
+    pub is : (tables_of w sort).maps.rows ≡ done ++ ahead
+    pub count : length done ≡ place
+    pub front : AllOf (RowIs true a) done
+    pub back : AllOf (RowIs false a) ahead
+
+module _ {O : Type 0} (watch : O → Watched) (w : World O) (in_step : AreInStep watch w)
+    (sort : ItemSort) (name : Name) (row : MapRow)
+    (found : entry (tables_of w sort).maps.rows name ≡ Some row) (value : Value) (id : ℕ) where
+  abbrev rows : List (Named MapRow)
+  rows = (tables_of w sort).maps.rows
+
+  abbrev was : Look
+  was = look_of watch w
+
+  abbrev now : List (Entry Bool)
+  now = bools_with value id (bools_seen (was sort row.key.0))
+
+  abbrev look_at : AlterOf O → Look
+  look_at a = look_in (chains_seen watch a.chains)
+
+  abbrev Done : AlterOf O → Named MapRow → Type 0
+  Done a = Shows was sort name value id now true (look_at a)
+
+  abbrev Ahead : AlterOf O → Named MapRow → Type 0
+  Ahead a = Shows was sort name value id now false (look_at a)
+
+  -- ---- all were written
+
+  module _ (a : AlterOf O) (kept : AreKept watch w sort a) (all : AllOf (Done a) rows) where
+    one_index : (own : Name) (kind : MapKind) (key : ℕ) → IsIndexed (was sort) rows kind key
+        → RowShows was sort name value id now true (look_at a) own kind key
+        → IsIndexed (look_at a sort) rows kind key
+    one_index own maps.Ints key is shows = tt
+    one_index own maps.Bools key is shows = tt
+    one_index own maps.Texts key is shows = tt
+    one_index own (maps.Degrees way) key is shows = tt
+    one_index own (maps.Trues source) key is shows =
+        let from = of_named (Done a) rows source is.source all is.found in
+        let entries = subst (λ k. EntriesShow was sort name value id now true (look_at a) source k
+        is.source.key.0) is.bools from.entries in
+        record {
+          source = is.source;
+          found = is.found;
+          bools = is.bools;
+          same = shows.entries ∙ ap (cond (bytes_eq source name) now) is.same ∙ sym entries;
+        }
+
+    indexed : AreIndexed (look_at a sort) rows
+    indexed =
+        all_so
+        (λ (e : Named MapRow). IsIndexed (was sort) rows e.value.kind e.value.key.0 × Done a e)
+        (λ (e : Named MapRow). IsIndexed (look_at a sort) rows e.value.kind e.value.key.0)
+        (λ e both. one_index e.name e.value.kind e.value.key.0 both.0 both.1) rows
+        (all_and (λ (e : Named MapRow). IsIndexed (was sort) rows e.value.kind e.value.key.0)
+        (Done a) rows (own_indexes w sort was in_step.derived) all)
+
+    pub written_in_step : AreInStep watch (record w { graph = a })
+    written_in_step =
+        subst (AreInStep watch) (same_rows_world w sort a)
+        (rows_in_step watch w (tables_of w sort).maps a in_step kept.then sort
+        (derived_with was (look_at a) w sort (tables_of w sort).maps kept.others indexed
+        in_step.derived)
+        (subst (λ list. AreSeated list (chains_seen watch a.chains)) (claims_are w sort)
+        kept.seated))
+
+    pub written_plain : plain_of watch (record w { graph = a })
+        ≡ with_map_changed (plain_of watch w) sort name (put_at value id)
+    written_plain =
+        let pool = kinds_of watch w.pool.items in
+        ap (plain_of watch) (sym (same_rows_world w sort a))
+        ∙ plain_later watch w sort (tables_of w sort).maps a
+        ∙ (λ i. world_seen (kept.graph i).graph (look_at a) pool
+        (with_rows w sort (tables_of w sort).maps a))
+        ∙ maps_seen w in_step.bare w.graph.graph.graph was (look_at a) pool a sort
+        (tables_of w sort).maps kept.others
+        ∙ ap (with_maps (plain_of watch w) sort)
+        (looked_changed (map_seen was sort) (map_seen (look_at a) sort) name (put_at value id) rows
+        (all_so (Done a) (ChangesAt (map_seen was sort) (map_seen (look_at a) sort) name
+        (put_at value id)) (λ e shows. shows.plain) rows all)
+        ∙ ap (λ maps. with_change maps name (put_at value id)) (sym (maps_plain watch w sort)))
+
+  -- ---- indexes of the map
+
+  -- an index of the name is one of the row
+  pub same_source : (source : Name) (other : MapRow) → entry rows source ≡ Some other
+      → bytes_eq source name ≡ true → other ≡ row
+  same_source source other there same =
+      same_Some other row
+      (sym there ∙ ap (entry rows) ((bytes_eq-Decides source name).0 same) ∙ found)
+
+  -- a map of another type than bools has no index
+  pub none_indexes : (row.kind ≡ maps.Bools → ⊥)
+      → AllOf (λ (e : Named MapRow). is_index_kind name e.value.kind ≡ false) rows
+  none_indexes apart =
+      all_so (λ (e : Named MapRow). IsIndexed (was sort) rows e.value.kind e.value.key.0)
+      (λ (e : Named MapRow). is_index_kind name e.value.kind ≡ false)
+      (λ e is. by e.value.kind e.value.key.0 is) rows (own_indexes w sort was in_step.derived)
+    where
+      by : (kind : MapKind) (key : ℕ) → IsIndexed (was sort) rows kind key
+          → is_index_kind name kind ≡ false
+      by maps.Ints key is = refl
+      by maps.Bools key is = refl
+      by maps.Texts key is = refl
+      by (maps.Degrees way) key is = refl
+      by (maps.Trues source) key is =
+          elim (bytes_eq source name) as (λ b. bytes_eq source name ≡ b → b ≡ false) [
+            | true ↦ λ same.
+                absurd (apart (sym (ap (λ (r : MapRow). r.kind)
+                (same_source source is.source is.found same)) ∙ is.bools))
+            | false ↦ λ other. refl
+          ] refl
+
+  -- so all is written with the map
+  pub all_done : (a : AlterOf O) → (row.kind ≡ maps.Bools → ⊥) → AllOf (Ahead a) rows
+      → AllOf (Done a) rows
+  all_done a apart ahead =
+      all_so (λ (e : Named MapRow). (is_index_kind name e.value.kind ≡ false) × Ahead a e) (Done a)
+      (λ e both. row_passes was sort name value id now (look_at a) e.name e.value.kind
+      e.value.key.0 both.0 both.1) rows
+      (all_and (λ (e : Named MapRow). is_index_kind name e.value.kind ≡ false) (Ahead a) rows
+      (none_indexes apart) ahead)
+
+  -- ---- the walk over the rows
+
+  pub writing_begins : (a : AlterOf O) → AreKept watch w sort a → AllOf (Ahead a) rows
+      → IsWriting watch w sort name row.key.0 value id 0 a
+  writing_begins a kept all = record {
+    kept = kept;
+    done = [];
+    ahead = rows;
+    is = refl;
+    count = refl;
+    front = tt;
+    back = all;
+  }
+
+  module _ (place : ℕ) (a : AlterOf O)
+      (writing : IsWriting watch w sort name row.key.0 value id place a) where
+    pub writing_ends : length rows ≤ place → AllOf (Done a) rows
+    writing_ends all =
+        let none = none_ahead writing.done writing.ahead
+        (omega (arith, ap length writing.is, writing.count, all)) in
+        subst (AllOf (Done a))
+        (sym (writing.is ∙ ap (λ list. writing.done ++ list) none ∙ append-nil writing.done))
+        writing.front
+
+    module _ (r : MapRow)
+        (at : slice_get (map (λ (e : Named MapRow). e.value) rows) place ≡ Some r) where
+      abbrev pub next : Next writing.ahead r
+      next = next_row writing.done writing.ahead r
+          ((λ i. slice_get (map (λ (e : Named MapRow). e.value) (sym writing.is i))
+          (writing.count i)) ∙ at)
+
+      pub split : rows ≡ writing.done ++ next.e ∷ next.rest
+      split = writing.is ∙ ap (λ list. writing.done ++ list) next.is
+
+      pub back_now : AllOf (Ahead a) (next.e ∷ next.rest)
+      back_now = subst (AllOf (Ahead a)) next.is writing.back
+
+      pub onward : (b : AlterOf O) → AreKept watch w sort b → AllOf (Done b) writing.done
+          → Done b next.e → AllOf (Ahead b) next.rest
+          → IsWriting watch w sort name row.key.0 value id (place + 1) b
+      onward b kept front own back = record {
+        kept = kept;
+        done = writing.done ++ next.e ∷ [];
+        ahead = next.rest;
+        is = split ∙ sym (append_assoc writing.done (next.e ∷ []) next.rest);
+        count = one_longer writing.done next.e ∙ ap (λ n. n + 1) writing.count;
+        front = all_both (Done b) writing.done (next.e ∷ []) front (own, tt);
+        back = back;
+      }
+
+      -- a row that is no index of the map
+      pub writing_passes : is_index_kind name r.kind ≡ false
+          → IsWriting watch w sort name row.key.0 value id (place + 1) a
+      writing_passes apart =
+          onward a writing.kept writing.front
+          (row_passes was sort name value id now (look_at a) next.e.name next.e.value.kind
+          next.e.value.key.0
+          (ap (λ (x : MapRow). is_index_kind name x.kind) next.has ∙ apart) back_now.0) back_now.1
+
+-- ---- an index is written
+
+pub record IsTruesOf (name : Name) (kind : MapKind) : Type 0 where
+  pub source : Name
+  pub is : kind ≡ maps.Trues source
+  pub same : bytes_eq source name ≡ true
+
+pub as_index : (name : Name) (kind : MapKind) → is_index_kind name kind ≡ true → IsTruesOf name kind
+as_index name maps.Ints is = absurd (true≢false (sym is))
+as_index name maps.Bools is = absurd (true≢false (sym is))
+as_index name maps.Texts is = absurd (true≢false (sym is))
+as_index name (maps.Degrees way) is = absurd (true≢false (sym is))
+as_index name (maps.Trues source) is = record { source = source; is = refl; same = is }
+
+plays_there : (role : claims.Role) (o : Option Seen) (s : Seen) → o ≡ Some s → Sits role o
+    → Plays role s
+plays_there role o s is sits = subst (Sits role) is sits
+
+module _ {O : Type 0} (watch : O → Watched) (w : World O) (in_step : AreInStep watch w)
+    (sort : ItemSort) (name : Name) (row : MapRow)
+    (found : entry (tables_of w sort).maps.rows name ≡ Some row) (v : Bool) (id place : ℕ)
+    (a : AlterOf O) (writing : IsWriting watch w sort name row.key.0 (values.Bool v) id place a)
+    (r : MapRow)
+    (at : slice_get (map (λ (e : Named MapRow). e.value) (tables_of w sort).maps.rows) place
+    ≡ Some r) (index : is_index_kind name r.kind ≡ true) where
+  abbrev table : List (Named MapRow)
+  table = (tables_of w sort).maps.rows
+
+  abbrev c : ChainsSeen
+  c = chains_seen watch a.chains
+
+  abbrev ahead : Next writing.ahead r
+  ahead = next watch w in_step sort name row found (values.Bool v) id place a writing r at
+
+  abbrev e : Named MapRow
+  e = ahead.e
+
+  parted : table ≡ writing.done ++ e ∷ ahead.rest
+  parted = split watch w in_step sort name row found (values.Bool v) id place a writing r at
+
+  abbrev of : IsTruesOf name r.kind
+  of = as_index name r.kind index
+
+  kind_is : e.value.kind ≡ maps.Trues of.source
+  kind_is = ap (λ (x : MapRow). x.kind) ahead.has ∙ of.is
+
+  key_is : e.value.key.0 ≡ r.key.0
+  key_is = ap (λ (x : MapRow). x.key.0) ahead.has
+
+  -- its seat is there
+  pub index_sits : Sits claims.Trues (look_in c sort r.key.0)
+  index_sits =
+      let Seated : Named MapRow → Type 0 = λ x. Sits (role_of x.value.kind)
+      (look_in c (seat_sort sort x.value.kind) x.value.key.0) in
+      let there : Seated e = (all_right Seated writing.done (e ∷ ahead.rest)
+      (subst (AllOf Seated) parted (maps_sit w c writing.kept.seated sort))).0 in
+      subst (λ k. Sits claims.Trues (look_in c sort k)) key_is
+      (subst (λ kind. Sits (role_of kind) (look_in c (seat_sort sort kind) e.value.key.0)) kind_is
+      there)
+
+  module _ (b : AlterOf O)
+      (puts : Puts sort r.key.0 (trues_with id v) c (chains_seen watch b.chains))
+      (same : b.graph ≡ a.graph) (then : states.IsInStep (state_of watch b)) where
+    abbrev d : ChainsSeen
+    d = chains_seen watch b.chains
+
+    abbrev first : Look
+    first = look_of watch w
+
+    abbrev bools : List (Entry Bool)
+    bools = bools_seen (first sort row.key.0)
+
+    abbrev bools_now : List (Entry Bool)
+    bools_now = swapped entry_id (with_value id v) bools
+
+    plays : Plays claims.Trues puts.was
+    plays = plays_there claims.Trues (look_in c sort r.key.0) puts.was puts.found index_sits
+
+    moved : Puts (seat_sort sort e.value.kind) e.value.key.0 (trues_with id v) c d
+    moved =
+        subst (λ kind. Puts (seat_sort sort kind) e.value.key.0 (trues_with id v) c d) (sym kind_is)
+        (subst (λ k. Puts sort k (trues_with id v) c d) (sym key_is) puts)
+
+    abbrev differ : ClaimsDiffer (claims_of w)
+    differ = writing.kept.seated.claims_differ
+
+    kept : AreKept watch w sort b
+    kept = record {
+      graph = same ∙ writing.kept.graph;
+      then = then;
+      seated = seated_put sort r.key.0 (trues_with id v) c d puts (sym plays.making) (claims_of w)
+          writing.kept.seated;
+      others = all_so (λ x. Agrees first (look_in c) x × Agrees (look_in c) (look_in d) x)
+          (Agrees first (look_in d)) (λ x both. both.1 ∙ both.0) (claims_with w sort [])
+          (all_and (Agrees first (look_in c)) (Agrees (look_in c) (look_in d))
+          (claims_with w sort []) writing.kept.others
+          (others_same watch w sort writing.done e ahead.rest parted differ c d (trues_with id v)
+          moved));
+    }
+
+    -- what the index shows now
+    trues_row : (own source : Name) (key : ℕ) → key ≡ r.key.0 → bytes_eq source name ≡ true
+        → IsIndexed (first sort) table (maps.Trues source) key
+        → RowShows first sort name (values.Bool v) id bools_now false (look_in c) own
+        (maps.Trues source) key
+        → RowShows first sort name (values.Bool v) id bools_now true (look_in d) own
+        (maps.Trues source) key
+    trues_row own source key here one is shows =
+        let was_there = ap (look_in c sort) here ∙ puts.found in
+        let there = ap (look_in d sort) here
+        ∙ seen_put sort r.key.0 (trues_with id v) c d puts in
+        let held : Option Seen → Option plain.Held = option_map
+        (λ (s : Seen). held_by (maps.Trues source) s.held) in
+        record {
+          plain = ap held there ∙ sym (ap held was_there) ∙ shows.plain;
+          entries = ap trues_seen there
+              ∙ ap (swapped entry_id (with_value id v))
+              (sym (ap trues_seen was_there) ∙ shows.entries ∙ is.same
+              ∙ ap (λ (x : MapRow). bools_seen (first sort x.key.0))
+              (same_source watch w in_step sort name row found (values.Bool v) id source is.source
+              is.found one))
+              ∙ sym (ap (λ b. cond b bools_now (trues_seen (first sort key))) one);
+        }
+
+    abbrev back : AllOf (Shows first sort name (values.Bool v) id bools_now false (look_in c))
+        (e ∷ ahead.rest)
+    back = back_now watch w in_step sort name row found (values.Bool v) id place a writing r at
+
+    own_row : Shows first sort name (values.Bool v) id bools_now true (look_in d) e
+    own_row =
+        let Was : MapKind → Type 0 = λ k. RowShows first sort name (values.Bool v) id bools_now
+        false (look_in c) e.name k e.value.key.0 in
+        let Is : MapKind → Type 0 = λ k. RowShows first sort name (values.Bool v) id bools_now true
+        (look_in d) e.name k e.value.key.0 in
+        let Indexed : Named MapRow → Type 0 = λ x. IsIndexed (first sort) table x.value.kind
+        x.value.key.0 in
+        let one : Indexed e = (all_right Indexed writing.done (e ∷ ahead.rest)
+        (subst (AllOf Indexed) parted (own_indexes w sort first in_step.derived))).0 in
+        subst Is (sym kind_is)
+        (trues_row e.name of.source e.value.key.0 key_is of.same
+        (subst (λ k. IsIndexed (first sort) table k e.value.key.0) kind_is one)
+        (subst Was kind_is back.0))
+
+    pub writing_steps : IsWriting watch w sort name row.key.0 (values.Bool v) id (place + 1) b
+    writing_steps =
+        onward watch w in_step sort name row found (values.Bool v) id place a writing r at b kept
+        (rows_stay first sort name (values.Bool v) id bools_now true (look_in c) (look_in d)
+        writing.done
+        (front_same watch w sort writing.done e ahead.rest parted differ c d (trues_with id v)
+        moved) writing.front)
+        own_row
+        (rows_stay first sort name (values.Bool v) id bools_now false (look_in c) (look_in d)
+        ahead.rest
+        (back_same watch w sort writing.done e ahead.rest parted differ c d (trues_with id v)
+        moved) back.1)
