@@ -4,11 +4,11 @@ ghost use Rattle.std.specs.Prelude.{◌≡◌, Contains, OnErr, IfOk};
 ghost use Rattle.alter_graph.specs.declared.snaps.SnapKeys.{SnapKeys};
 ghost use Rattle.change_tests.specs.Watching.{IsWatchedInStep};
 
-use crate::changes::{Change, alter};
 use crate::seats::{Seat, has_lists, no_memory, state};
 use crate::watcher::Watcher;
 use alter_graph::{AlterFault, Alterable, SnapKeys};
 use base_items::ItemSort;
+use named_changes::{Change, alter};
 use std::alloc::{AllocError, Global};
 use std::process::Abort;
 use std::test::Fail;

@@ -2,11 +2,11 @@
 
 ghost use Rattle.alter_graph.specs.State.{state_of, IsInStep};
 
-use crate::changes::{Change, alter};
 use crate::moody::Moody;
 use crate::seats::no_memory;
 use alter_graph::{AlterFault, Alterable};
 use digraph_text::listed;
+use named_changes::{Change, alter};
 use observe_core::Observer;
 use std::alloc::Global;
 use std::process::Abort;

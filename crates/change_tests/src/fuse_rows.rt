@@ -1,7 +1,7 @@
 //! Erasures at which fuses leave: what is there after, who left, and what is left of the others.
 
 use crate::acts::Act;
-use crate::changes::Change;
+use named_changes::Change;
 
 /// What is done to the digraph that `BUILD` makes.
 #[derive(Clone, Copy, Debug)]

@@ -8,8 +8,6 @@ mod alterations;
 #[cfg(test)]
 mod chains;
 #[cfg(test)]
-mod changes;
-#[cfg(test)]
 mod fuse_rows;
 #[cfg(test)]
 mod fuses;

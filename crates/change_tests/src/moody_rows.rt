@@ -1,7 +1,7 @@
 //! Alterations of one digraph: how many of their steps may be refused, and what is there after.
 
 use crate::acts::Act;
-use crate::changes::Change;
+use named_changes::Change;
 
 /// What is done to the digraph that `BUILD` makes.
 #[derive(Clone, Copy, Debug)]

@@ -4,7 +4,6 @@ ghost use Rattle.std.specs.Prelude.{◌≡◌, Contains, IfOk};
 ghost use Rattle.change_tests.specs.Watching.{IsWatchedInStep};
 
 use crate::acts::{make, make_listed, refuse, snapshot, snapshot_beside, take};
-use crate::changes::Change;
 use crate::moody::Moody;
 use crate::moody_rows::{BUILD, BUILT, ROWS, Row};
 use crate::seats::{Seat, attach, has_lists, no_memory};
@@ -12,6 +11,7 @@ use crate::watcher::Watcher;
 use alter_graph::{AlterFault, Alterable, SnapKeys};
 use base_items::{Arc, ItemSort, Node};
 use digraph_text::is_live;
+use named_changes::Change;
 use std::alloc::Global;
 use std::process::Abort;
 use std::test::Fail;

@@ -8,12 +8,12 @@ ghost use Rattle.change_tests.specs.Names.{AreApart};
 ghost use Rattle.change_tests.specs.Watching.{watched, IsWatchedInStep};
 
 use crate::acts::{Act, make, make_listed, refuse, snapshot, snapshot_beside, take};
-use crate::changes::Change;
 use crate::seats::{Seat, attach, has_lists, no_memory, told};
 use crate::watcher::Watcher;
 use alter_graph::{AlterFault, Alterable, SnapKeys};
 use base_items::ItemSort;
 use guard_kinds::Simple;
+use named_changes::Change;
 use std::alloc::Global;
 use std::process::Abort;
 use std::test::Fail;

@@ -63,45 +63,37 @@ fn push_marks(text: &mut String, marks: &[u8]) -> Result<(), AllocError> {
 }
 
 // The arcs from the node, each behind the first with a blank before it.
-fn push_outs<'a, G: Shown>(
-    text: &mut String,
-    tower: &Over<'a, Columns, G>,
-    node: Node,
-) -> Result<(), AllocError>
-    requires { lists.has (⟦<Over<'a, Columns, G> as Shown>⟧.graph tower.now).nodes node.0 ≡ true }
+fn push_outs<G: Shown>(text: &mut String, view: &G, node: Node) -> Result<(), AllocError>
+    requires { lists.has (G.graph view.now).nodes node.0 ≡ true }
 {
-    let mut next = tower.first_out(node);
+    let mut next = view.first_out(node);
     for place in 0..64 {
         let Some(arc) = next else {
             return Ok(());
         };
-        if !tower.has_arc(arc) {
+        if !view.has_arc(arc) {
             break;
         }
         push_id(text, place, arc)?;
-        next = tower.next_out(arc);
+        next = view.next_out(arc);
     }
     text.push_str(" more")
 }
 
 // The arcs to the node.
-fn push_ins<'a, G: Shown>(
-    text: &mut String,
-    tower: &Over<'a, Columns, G>,
-    node: Node,
-) -> Result<(), AllocError>
-    requires { lists.has (⟦<Over<'a, Columns, G> as Shown>⟧.graph tower.now).nodes node.0 ≡ true }
+fn push_ins<G: Shown>(text: &mut String, view: &G, node: Node) -> Result<(), AllocError>
+    requires { lists.has (G.graph view.now).nodes node.0 ≡ true }
 {
-    let mut next = tower.first_in(node);
+    let mut next = view.first_in(node);
     for place in 0..64 {
         let Some(arc) = next else {
             return Ok(());
         };
-        if !tower.has_arc(arc) {
+        if !view.has_arc(arc) {
             break;
         }
         push_id(text, place, arc)?;
-        next = tower.next_in(arc);
+        next = view.next_in(arc);
     }
     text.push_str(" more")
 }
@@ -115,8 +107,8 @@ fn push_id(text: &mut String, place: u32, arc: Arc) -> Result<(), AllocError> {
 }
 
 /// The arcs with ids below a bound that are shown, by rising id, each with its marks in
-/// parentheses, its ends, the values that it pulls from the capacity and from the flow, and whether it passes.
-/// As `0(+) 1-2 2 0 yes; 1(-) 2-1 -2 0 yes; `.
+/// parentheses, its ends, the values that it pulls from the capacity and from the flow, and whether
+/// it passes. As `0(+) 1-2 2 0 yes; 1(-) 2-1 -2 0 yes; `.
 pub fn pulled<'a, G: Shown>(
     alloc: Global,
     tower: &Over<'a, Columns, G>,
@@ -140,4 +132,40 @@ pub fn pulled<'a, G: Shown>(
         }
     }
     Ok(text)
+}
+
+/// The nodes in their order, each with the arcs from it behind `>` and the arcs to it behind `<`;
+/// then the ends of the arcs with ids below a bound, by rising id. As
+/// `1 >3 2 <; 0 > <3 2; 2:1-0 3:1-0 `.
+pub fn walked<G: Shown>(alloc: Global, view: &G, bound: u32) -> Result<String, AllocError> {
+    let mut text = String::new(alloc);
+    let mut next = view.first_node();
+    for _ in 0..64 {
+        let Some(node) = next else {
+            push_ends(&mut text, view, bound)?;
+            return Ok(text);
+        };
+        if !view.has_node(node) {
+            break;
+        }
+        write!(text, "{} >", node.0)?;
+        push_outs(&mut text, view, node)?;
+        text.push_str(" <")?;
+        push_ins(&mut text, view, node)?;
+        text.push_str("; ")?;
+        next = view.next_node(node);
+    }
+    text.push_str("more")?;
+    Ok(text)
+}
+
+// The ends of all arcs with ids below the bound.
+fn push_ends<G: Shown>(text: &mut String, view: &G, bound: u32) -> Result<(), AllocError> {
+    for id in 0..bound {
+        if view.has_arc(Arc(id)) {
+            let (from, to) = view.ends(Arc(id));
+            write!(text, "{id}:{}-{} ", from.0, to.0)?;
+        }
+    }
+    Ok(())
 }

@@ -1,13 +1,10 @@
 //! Layers with the lists that their tower must show, and the example that they are tried on.
 
-ghost use Rattle.std.specs.Prelude.{◌≡◌, true};
-ghost use Rattle.plain_digraph.specs.Items as items;
-
 use crate::columns::{Columns, have_maps};
 use crate::listing::{listed, pulled};
 use base_items::{ItemSort, Node};
+use digraph_text::is_live;
 use list_digraph::ListDigraph;
-use plain_digraph::live_items_are_told;
 use std::alloc::{AllocError, Global};
 use std::process::Abort;
 use view_tower::{Layer, tower};
@@ -27,15 +24,6 @@ pub struct Row {
     pub layers: &'static [Layer],
     pub nodes: &'static [&'static str],
     pub arcs: &'static [&'static str],
-}
-
-// Whether something is told of the item, which then is live.
-fn is_live(graph: &ListDigraph, sort: ItemSort, id: u32) -> bool
-    ensures { result ≡ true → items.IsLive graph.now.graph sort id }
-{
-    let count = graph.count(sort);
-    live_items_are_told();
-    graph.fact(sort, id).is_some()
 }
 
 // Adds an arc where both nodes are live.
