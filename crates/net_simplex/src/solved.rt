@@ -52,7 +52,7 @@ pub fn solve_network(
     let mut flow = first_flow(alloc, g, excess)?;
     let mut tree = first_tree(alloc, n, m)?;
     let mut queue = vec![in alloc; 0u32; n as usize + 1]?;
-    let block = block_of(m + n);
+    let block = block_of(m);
     let endless = solve(
         &flow.ends,
         cap,
@@ -66,6 +66,7 @@ pub fn solve_network(
         &mut tree.depth,
         &mut flow.price,
         &mut queue,
+        m,
         block,
     );
     Ok(Solved {

@@ -15,5 +15,6 @@ pub mod Opening
 pub mod Pricing
 pub mod Falling
 pub mod Pivoting
+pub mod Pivoted
 pub mod Recasting
 pub mod Basics

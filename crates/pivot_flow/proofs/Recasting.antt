@@ -1,5 +1,5 @@
 -- The same facts over the nodes alone, or with capacities.
-use Rattle.std.proofs.Common.{ℕ, [], List, ℤ, refl, ◌∙◌}
+use Rattle.std.proofs.Common.{◌≡◌, ℕ, [], List, ℤ, refl, ◌∙◌}
 use Rattle.pivot_flow.specs.declared.look.Ends.{Ends}
 use Rattle.pivot_flow.specs.Enter.{IsSettled}
 use Rattle.pivot_flow.specs.Kids.{bare}
@@ -21,13 +21,13 @@ hung_bare n es cap h s = record {
   falls = s.falls;
 }
 
-pub turned_full : (n : ℕ) (es : List Ends) (cap : List ℕ) (h : Tree) (p a : ℕ → ℕ)
+turned_full : (n : ℕ) (es : List Ends) (cap : List ℕ) (h : Tree) (p a : ℕ → ℕ)
     (inner outer e x : ℕ) → IsTurned (task_of n es []) h p a inner outer e x
     → IsTurned (task_of n es cap) h p a inner outer e x
 turned_full n es cap h p a inner outer e x s =
     record { kept = s.kept; turned = s.turned; first = s.first }
 
-pub settled_full : (n : ℕ) (es : List Ends) (cap : List ℕ) (p : ℕ → ℕ) (y y' : ℕ → ℤ) (d' : ℕ → ℕ)
+settled_full : (n : ℕ) (es : List Ends) (cap : List ℕ) (p : ℕ → ℕ) (y y' : ℕ → ℤ) (d' : ℕ → ℕ)
     (inner outer : ℕ) (by : ℤ) → IsSettled (bare n) p y y' d' inner outer by
     → IsSettled (task_of n es cap) p y y' d' inner outer by
 settled_full n es cap p y y' d' inner outer by s = record {
@@ -39,6 +39,17 @@ settled_full n es cap p y y' d' inner outer by s = record {
   outer_price = s.outer_price;
   each = s.each;
 }
+
+-- a part that hangs anew: the nodes and the change are given by what the program has for them
+pub rehung_full : (n : ℕ) (es : List Ends) (cap : List ℕ) (h : Tree) (p a : ℕ → ℕ) (y y' : ℕ → ℤ)
+    (d' : ℕ → ℕ) (i j inner outer e x : ℕ) (z by : ℤ) → i ≡ inner → j ≡ outer → z ≡ by
+    → IsTurned (task_of n es []) h p a i j e x → IsSettled (bare n) p y y' d' i j z
+    → IsTurned (task_of n es cap) h p a inner outer e x
+    × IsSettled (task_of n es cap) p y y' d' inner outer by
+rehung_full n es cap h p a y y' d' i j inner outer e x z by i_is j_is by_is turned settled = (
+  turned_full n es cap h p a inner outer e x (rw (i_is, j_is) at turned),
+  settled_full n es cap p y y' d' inner outer by (rw (i_is, j_is, by_is) at settled),
+)
 
 pub cut_bare : (n : ℕ) (es : List Ends) (p d : ℕ → ℕ) (inner outer : ℕ)
     → IsCut (task_of n es []) p d inner outer → IsCut (bare n) p d inner outer

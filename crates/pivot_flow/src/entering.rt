@@ -19,7 +19,7 @@ pub struct Gain {
     pub forward: bool,
 }
 
-/// An arc that enters, and the place after its block, where the next search begins.
+/// An arc that enters, and the place after its block, where the next search goes on.
 #[derive(Clone, Copy)]
 pub struct Entering {
     pub arc: u32,
@@ -46,33 +46,20 @@ fn gain_of(ends: &[Ends], cap: &[u64], cost: &[i64], flow: &[u64], price: &[i64]
 {
     let reduced = reduced_of(ends, cost, price, e);
     let k = e as usize;
-    if reduced < 0 {
-        if flow[k] < cap[k] {
-            return Gain {
-                arc: e,
-                saving: -reduced,
-                forward: true,
-            };
-        }
-        return Gain {
+    let ahead = if flow[k] < cap[k] { -reduced } else { 0 };
+    let back = if flow[k] > 0 { reduced } else { 0 };
+    if ahead > back {
+        Gain {
             arc: e,
-            saving: 0,
+            saving: ahead,
             forward: true,
-        };
-    }
-    if reduced > 0 {
-        if flow[k] > 0 {
-            return Gain {
-                arc: e,
-                saving: reduced,
-                forward: false,
-            };
         }
-    }
-    Gain {
-        arc: e,
-        saving: 0,
-        forward: false,
+    } else {
+        Gain {
+            arc: e,
+            saving: back,
+            forward: false,
+        }
     }
 }
 
@@ -115,7 +102,50 @@ fn best_of(
     best
 }
 
-/// An arc that may enter, sought from `start` on block by block.
+/// An arc that may enter of those from `start` to below `stop`, sought block by block.
+fn seek_from(
+    ends: &[Ends],
+    cap: &[u64],
+    cost: &[i64],
+    flow: &[u64],
+    price: &[i64],
+    start: u32,
+    stop: u32,
+    block: u32,
+) -> Option<Entering>
+    requires range { (start ≤ stop) × (stop ≤ length ends.now) }
+    requires block { 0 < block }
+    requires few { length ends.now ≤ 2 ^ 23 }
+    requires arcs { (length cap.now ≡ length ends.now) × (length flow.now ≡ length ends.now)
+        × (length cost.now ≡ length ends.now) }
+    requires shape { EndsAreNodes (task_of (length price.now) ends.now cap.now).net }
+    requires costed { IsCosted (task_of (length price.now) ends.now cap.now) (price_at cost.now) }
+    requires prices { (v : ℕ) → v < length price.now
+        → (neg_ℤ (pos (2 ^ 58)) ≤ℤ price_at price.now v) × (price_at price.now v ≤ℤ pos (2 ^ 58)) }
+    ensures { MatchOption result ((e : ℕ) → start ≤ e → e < stop → (forward : Bool)
+        → MayEnter (task_of (length price.now) ends.now cap.now) (price_at cost.now) (at flow.now)
+        (price_at price.now) e forward → ⊥)
+        (λ x. MayEnter (task_of (length price.now) ends.now cap.now) (price_at cost.now)
+        (at flow.now) (price_at price.now) x.arc x.forward × (x.after ≤ stop)) }
+{
+    let mut k = start;
+    while k < stop {
+        let end = if stop - k > block { k + block } else { stop };
+        let best = best_of(ends, cap, cost, flow, price, k, end);
+        if best.saving > 0 {
+            return Some(Entering {
+                arc: best.arc,
+                forward: best.forward,
+                after: end,
+            });
+        }
+        k = end;
+    }
+    None
+}
+
+/// An arc that may enter: of those below `front`, from `start` on and around; of the others only
+/// where none of these may.
 pub fn seek(
     ends: &[Ends],
     cap: &[u64],
@@ -123,9 +153,10 @@ pub fn seek(
     flow: &[u64],
     price: &[i64],
     start: u32,
+    front: u32,
     block: u32,
 ) -> Option<Entering>
-    requires start { start ≤ length ends.now }
+    requires start { (start ≤ front) × (front ≤ length ends.now) }
     requires block { 0 < block }
     requires few { length ends.now ≤ 2 ^ 23 }
     requires arcs { (length cap.now ≡ length ends.now) × (length flow.now ≡ length ends.now)
@@ -139,36 +170,12 @@ pub fn seek(
         (λ x. MayEnter (task_of (length price.now) ends.now cap.now) (price_at cost.now)
         (at flow.now) (price_at price.now) x.arc x.forward × (x.after ≤ length ends.now)) }
 {
-    let m = ends.len() as u32;
-    let mut k = start;
-    while k < m {
-        let end = if m - k > block { k + block } else { m };
-        let best = best_of(ends, cap, cost, flow, price, k, end);
-        if best.saving > 0 {
-            return Some(Entering {
-                arc: best.arc,
-                forward: best.forward,
-                after: end,
-            });
-        }
-        k = end;
+    if let Some(entering) = seek_from(ends, cap, cost, flow, price, start, front, block) {
+        return Some(entering);
     }
-    let mut low = 0;
-    while low < start {
-        let end = if start - low > block {
-            low + block
-        } else {
-            start
-        };
-        let best = best_of(ends, cap, cost, flow, price, low, end);
-        if best.saving > 0 {
-            return Some(Entering {
-                arc: best.arc,
-                forward: best.forward,
-                after: end,
-            });
-        }
-        low = end;
+    if let Some(entering) = seek_from(ends, cap, cost, flow, price, 0, start, block) {
+        return Some(entering);
     }
-    None
+    let all = ends.len() as u32;
+    seek_from(ends, cap, cost, flow, price, front, all, block)
 }

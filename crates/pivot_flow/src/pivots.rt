@@ -38,7 +38,16 @@ fn room_of(ends: &[Ends], cap: &[u64], flow: &[u64], e: u32, forward: bool) -> u
     if forward { cap[k] - flow[k] } else { flow[k] }
 }
 
+/// Where the next search begins, when the last one ended at `after`.
+fn next_start(after: u32, front: u32) -> u32
+    ensures { result ≤ front }
+{
+    if after < front { after } else { 0 }
+}
+
 /// Pivots until no arc may enter, or until a cycle has more room than any bound leaves.
+///
+/// The arcs below `front` are sought first, and the others only where none of these may enter.
 pub fn solve(
     ends: &[Ends],
     cap: &[u64],
@@ -52,6 +61,7 @@ pub fn solve(
     depth: &mut [u32],
     price: &mut [i64],
     queue: &mut [u32],
+    front: u32,
     block: u32,
 ) -> Option<Endless>
     requires arcs { (length cap.now ≡ length ends.now) × (length flow.old ≡ length ends.now)
@@ -60,6 +70,7 @@ pub fn solve(
         × (length prev.old ≡ length parent.old) }
     requires lens { (length arc.old ≡ length parent.old) × (length depth.old ≡ length parent.old)
         × (length price.old ≡ length parent.old) × (length queue.old ≡ length parent.old) }
+    requires front { front ≤ length ends.now }
     requires block { (0 < block) × (length ends.now ≤ 2 ^ 23) }
     requires shape { EndsAreNodes (task_of (length parent.old) ends.now cap.now).net }
     requires costed { IsCosted (task_of (length parent.old) ends.now cap.now) (price_at cost.now) }
@@ -93,7 +104,7 @@ pub fn solve(
         x.found.step x.found.leaves × (2 ^ 61 ≤ x.found.step))) }
 {
     let mut start = 0;
-    while let Some(entering) = seek(ends, cap, cost, flow, price, start, block) {
+    while let Some(entering) = seek(ends, cap, cost, flow, price, start, front, block) {
         let e = entering.arc;
         let forward = entering.forward;
         let i = tail_of(ends, e, forward);
@@ -107,7 +118,7 @@ pub fn solve(
             ends, cap, cost, flow, first, next, prev, parent, arc, depth, price, queue, e, forward,
             &found,
         );
-        start = entering.after;
+        start = next_start(entering.after, front);
     }
     None
 }

@@ -44,7 +44,7 @@ loop-entering-preserved c =
     let new = c.pivot.new in
     let state = rw lens at c.pivot.ensures.state in
     record {
-      start = c.in-Some.ensures.1;
+      start = c.next_start-start.ensures;
       free = rw lens at c.pivot.ensures.free;
       kids = rw lens at c.pivot.ensures.kids;
       state = sends_back t (sends_of t (at c.args.flow.now)) (price_at c.args.cost.now)

@@ -11,7 +11,7 @@ invariant-loop-entering l =
     let n = length l.initial.parent in
     let t = task_of n l.ends l.cap in
     record {
-      start : l.start ≤ length l.ends;
+      start : l.start ≤ l.front;
       free : IsOpenFree t (at l.flow) (2 ^ 37);
       kids : AreKids (bare n) (links_of l.first l.next l.prev) (at l.parent);
       state : IsState t (sends_of t (at l.initial.flow)) (price_at l.cost)

@@ -52,20 +52,11 @@ offset_bounds-queue-head c =
     let inner = c.args.inner in
     let outer = p inner in
     let by = to_z w64 (of_z w64 c.args.by) in
-    let w = at l.queue l.head in
     let inside = c.loop-head-test.true in
     let st = l.invariant in
-    let sw = (st.listed l.head inside).0 in
-    let node : w < n = (st.node w sw).0.0 in
     let sizes = c.requires.sizes in
-    let lens = c.requires.lens in
     let small : l.tail < n = tail_small (bare n) k p (at l.queue) (at c.args.depth.now) (at l.depth)
     (price_at c.args.price.now) (price_at l.price) inner outer by l.head l.tail l.last 2 st in
-    let queue_a = l.auto.queue in
-    let queue_b = c.queued-tail.auto.queue in
-    let depth_a = simp (length-set {A = ℕ}) at l.auto.depth in
-    let price_a = l.auto.price in
-    let price_b = c.raise.auto.price in
     let fits : l.head * 4 < 2 ^ 64 = omega (arith, inside, small, sizes) in
     omega (arith, fits)
 
@@ -78,45 +69,24 @@ bounds-queue-head c =
     let inner = c.args.inner in
     let outer = p inner in
     let by = to_z w64 (of_z w64 c.args.by) in
-    let w = at l.queue l.head in
     let inside = c.loop-head-test.true in
     let st = l.invariant in
-    let sw = (st.listed l.head inside).0 in
-    let node : w < n = (st.node w sw).0.0 in
-    let sizes = c.requires.sizes in
     let lens = c.requires.lens in
     let small : l.tail < n = tail_small (bare n) k p (at l.queue) (at c.args.depth.now) (at l.depth)
     (price_at c.args.price.now) (price_at l.price) inner outer by l.head l.tail l.last 2 st in
     let queue_a = l.auto.queue in
     let queue_b = c.queued-tail.auto.queue in
-    let depth_a = simp (length-set {A = ℕ}) at l.auto.depth in
-    let price_a = l.auto.price in
-    let price_b = c.raise.auto.price in
     omega (arith, inside, small, queue_a, queue_b, lens)
 
 pub bounds-parent-w : goal.bounds-parent-w
 bounds-parent-w c =
     let n = length c.args.parent.now in
-    let k = links_of c.args.first.now c.args.next.now c.args.prev.now in
-    let p = at c.args.parent.now in
     let l = c.loop-head in
-    let inner = c.args.inner in
-    let outer = p inner in
-    let by = to_z w64 (of_z w64 c.args.by) in
     let w = at l.queue l.head in
     let inside = c.loop-head-test.true in
     let st = l.invariant in
     let sw = (st.listed l.head inside).0 in
     let node : w < n = (st.node w sw).0.0 in
-    let sizes = c.requires.sizes in
-    let lens = c.requires.lens in
-    let small : l.tail < n = tail_small (bare n) k p (at l.queue) (at c.args.depth.now) (at l.depth)
-    (price_at c.args.price.now) (price_at l.price) inner outer by l.head l.tail l.last 2 st in
-    let queue_a = l.auto.queue in
-    let queue_b = c.queued-tail.auto.queue in
-    let depth_a = simp (length-set {A = ℕ}) at l.auto.depth in
-    let price_a = l.auto.price in
-    let price_b = c.raise.auto.price in
     node
 
 pub bounds-depth-parent : goal.bounds-depth-parent
@@ -132,16 +102,8 @@ bounds-depth-parent c =
     let inside = c.loop-head-test.true in
     let st = l.invariant in
     let sw = (st.listed l.head inside).0 in
-    let node : w < n = (st.node w sw).0.0 in
-    let sizes = c.requires.sizes in
     let lens = c.requires.lens in
-    let small : l.tail < n = tail_small (bare n) k p (at l.queue) (at c.args.depth.now) (at l.depth)
-    (price_at c.args.price.now) (price_at l.price) inner outer by l.head l.tail l.last 2 st in
-    let queue_a = l.auto.queue in
-    let queue_b = c.queued-tail.auto.queue in
     let depth_a = simp (length-set {A = ℕ}) at l.auto.depth in
-    let price_a = l.auto.price in
-    let price_b = c.raise.auto.price in
     let up =
     (node_done (bare n) k p (at l.queue) (at c.args.depth.now) (at l.depth)
     (price_at c.args.price.now) (price_at l.price) inner outer by l.head l.tail l.last 2 st
@@ -160,17 +122,9 @@ overflow_add-depth-in-loop-head c =
     let w = at l.queue l.head in
     let inside = c.loop-head-test.true in
     let st = l.invariant in
-    let sw = (st.listed l.head inside).0 in
-    let node : w < n = (st.node w sw).0.0 in
     let sizes = c.requires.sizes in
-    let lens = c.requires.lens in
     let small : l.tail < n = tail_small (bare n) k p (at l.queue) (at c.args.depth.now) (at l.depth)
     (price_at c.args.price.now) (price_at l.price) inner outer by l.head l.tail l.last 2 st in
-    let queue_a = l.auto.queue in
-    let queue_b = c.queued-tail.auto.queue in
-    let depth_a = simp (length-set {A = ℕ}) at l.auto.depth in
-    let price_a = l.auto.price in
-    let price_b = c.raise.auto.price in
     let low = low_depth (bare n) k p (at l.queue) (at c.args.depth.now) (at l.depth)
     (price_at c.args.price.now) (price_at l.price) inner outer by l.head l.tail l.last w st
     inside refl in
@@ -181,49 +135,26 @@ overflow_add-depth-in-loop-head c =
 pub bounds-depth-w : goal.bounds-depth-w
 bounds-depth-w c =
     let n = length c.args.parent.now in
-    let k = links_of c.args.first.now c.args.next.now c.args.prev.now in
-    let p = at c.args.parent.now in
     let l = c.loop-head in
-    let inner = c.args.inner in
-    let outer = p inner in
-    let by = to_z w64 (of_z w64 c.args.by) in
     let w = at l.queue l.head in
     let inside = c.loop-head-test.true in
     let st = l.invariant in
     let sw = (st.listed l.head inside).0 in
     let node : w < n = (st.node w sw).0.0 in
-    let sizes = c.requires.sizes in
     let lens = c.requires.lens in
-    let small : l.tail < n = tail_small (bare n) k p (at l.queue) (at c.args.depth.now) (at l.depth)
-    (price_at c.args.price.now) (price_at l.price) inner outer by l.head l.tail l.last 2 st in
-    let queue_a = l.auto.queue in
-    let queue_b = c.queued-tail.auto.queue in
     let depth_a = simp (length-set {A = ℕ}) at l.auto.depth in
-    let price_a = l.auto.price in
-    let price_b = c.raise.auto.price in
     omega (arith, node, depth_a, lens)
 
 pub raise-requires-in-loop-head-clause-node : goal.raise-requires-in-loop-head-clause-node
 raise-requires-in-loop-head-clause-node c =
     let n = length c.args.parent.now in
-    let k = links_of c.args.first.now c.args.next.now c.args.prev.now in
-    let p = at c.args.parent.now in
     let l = c.loop-head in
-    let inner = c.args.inner in
-    let outer = p inner in
-    let by = to_z w64 (of_z w64 c.args.by) in
     let w = at l.queue l.head in
     let inside = c.loop-head-test.true in
     let st = l.invariant in
     let sw = (st.listed l.head inside).0 in
     let node : w < n = (st.node w sw).0.0 in
-    let sizes = c.requires.sizes in
     let lens = c.requires.lens in
-    let small : l.tail < n = tail_small (bare n) k p (at l.queue) (at c.args.depth.now) (at l.depth)
-    (price_at c.args.price.now) (price_at l.price) inner outer by l.head l.tail l.last 2 st in
-    let queue_a = l.auto.queue in
-    let queue_b = c.queued-tail.auto.queue in
-    let depth_a = simp (length-set {A = ℕ}) at l.auto.depth in
     let price_a = l.auto.price in
     let price_b = c.raise.auto.price in
     omega (arith, node, price_a, price_b, lens)
@@ -242,15 +173,6 @@ raise-requires-in-loop-head-clause-price c =
     let st = l.invariant in
     let sw = (st.listed l.head inside).0 in
     let node : w < n = (st.node w sw).0.0 in
-    let sizes = c.requires.sizes in
-    let lens = c.requires.lens in
-    let small : l.tail < n = tail_small (bare n) k p (at l.queue) (at c.args.depth.now) (at l.depth)
-    (price_at c.args.price.now) (price_at l.price) inner outer by l.head l.tail l.last 2 st in
-    let queue_a = l.auto.queue in
-    let queue_b = c.queued-tail.auto.queue in
-    let depth_a = simp (length-set {A = ℕ}) at l.auto.depth in
-    let price_a = l.auto.price in
-    let price_b = c.raise.auto.price in
     let is =
     (st.same w (open_w (bare n) k p (at l.queue) (at c.args.depth.now) (at l.depth)
     (price_at c.args.price.now) (price_at l.price) inner outer by l.head l.tail l.last w st
@@ -260,26 +182,13 @@ raise-requires-in-loop-head-clause-price c =
 pub bounds-first-w : goal.bounds-first-w
 bounds-first-w c =
     let n = length c.args.parent.now in
-    let k = links_of c.args.first.now c.args.next.now c.args.prev.now in
-    let p = at c.args.parent.now in
     let l = c.loop-head in
-    let inner = c.args.inner in
-    let outer = p inner in
-    let by = to_z w64 (of_z w64 c.args.by) in
     let w = at l.queue l.head in
     let inside = c.loop-head-test.true in
     let st = l.invariant in
     let sw = (st.listed l.head inside).0 in
     let node : w < n = (st.node w sw).0.0 in
     let sizes = c.requires.sizes in
-    let lens = c.requires.lens in
-    let small : l.tail < n = tail_small (bare n) k p (at l.queue) (at c.args.depth.now) (at l.depth)
-    (price_at c.args.price.now) (price_at l.price) inner outer by l.head l.tail l.last 2 st in
-    let queue_a = l.auto.queue in
-    let queue_b = c.queued-tail.auto.queue in
-    let depth_a = simp (length-set {A = ℕ}) at l.auto.depth in
-    let price_a = l.auto.price in
-    let price_b = c.raise.auto.price in
     omega (arith, node, sizes)
 
 pub queued-mid-requires : goal.queued-mid-requires
@@ -291,20 +200,13 @@ queued-mid-requires c =
     let inner = c.args.inner in
     let outer = p inner in
     let by = to_z w64 (of_z w64 c.args.by) in
-    let w = at l.queue l.head in
-    let inside = c.loop-head-test.true in
     let st = l.invariant in
-    let sw = (st.listed l.head inside).0 in
-    let node : w < n = (st.node w sw).0.0 in
     let sizes = c.requires.sizes in
     let lens = c.requires.lens in
     let small : l.tail < n = tail_small (bare n) k p (at l.queue) (at c.args.depth.now) (at l.depth)
     (price_at c.args.price.now) (price_at l.price) inner outer by l.head l.tail l.last 2 st in
     let queue_a = l.auto.queue in
     let queue_b = c.queued-tail.auto.queue in
-    let depth_a = simp (length-set {A = ℕ}) at l.auto.depth in
-    let price_a = l.auto.price in
-    let price_b = c.raise.auto.price in
     record {
       room = (
         omega (arith, small, queue_a, queue_b, lens),
@@ -315,26 +217,13 @@ queued-mid-requires c =
 pub bounds-next-w : goal.bounds-next-w
 bounds-next-w c =
     let n = length c.args.parent.now in
-    let k = links_of c.args.first.now c.args.next.now c.args.prev.now in
-    let p = at c.args.parent.now in
     let l = c.loop-head in
-    let inner = c.args.inner in
-    let outer = p inner in
-    let by = to_z w64 (of_z w64 c.args.by) in
     let w = at l.queue l.head in
     let inside = c.loop-head-test.true in
     let st = l.invariant in
     let sw = (st.listed l.head inside).0 in
     let node : w < n = (st.node w sw).0.0 in
     let sizes = c.requires.sizes in
-    let lens = c.requires.lens in
-    let small : l.tail < n = tail_small (bare n) k p (at l.queue) (at c.args.depth.now) (at l.depth)
-    (price_at c.args.price.now) (price_at l.price) inner outer by l.head l.tail l.last 2 st in
-    let queue_a = l.auto.queue in
-    let queue_b = c.queued-tail.auto.queue in
-    let depth_a = simp (length-set {A = ℕ}) at l.auto.depth in
-    let price_a = l.auto.price in
-    let price_b = c.raise.auto.price in
     omega (arith, node, sizes)
 
 pub queued-tail-requires-in-loop-head : goal.queued-tail-requires-in-loop-head
@@ -349,17 +238,10 @@ queued-tail-requires-in-loop-head c =
     let w = at l.queue l.head in
     let inside = c.loop-head-test.true in
     let st = l.invariant in
-    let sw = (st.listed l.head inside).0 in
-    let node : w < n = (st.node w sw).0.0 in
     let sizes = c.requires.sizes in
     let lens = c.requires.lens in
-    let small : l.tail < n = tail_small (bare n) k p (at l.queue) (at c.args.depth.now) (at l.depth)
-    (price_at c.args.price.now) (price_at l.price) inner outer by l.head l.tail l.last 2 st in
     let queue_a = l.auto.queue in
     let queue_b = c.queued-tail.auto.queue in
-    let depth_a = simp (length-set {A = ℕ}) at l.auto.depth in
-    let price_a = l.auto.price in
-    let price_b = c.raise.auto.price in
     let mid = turn_first (bare n) k p (at l.queue) (at c.args.depth.now) (at l.depth)
     (price_at c.args.price.now) (price_at l.price) inner outer by l.head l.tail
     c.queued-mid.result l.last w st inside refl c.queued-mid.ensures.none
@@ -387,20 +269,10 @@ loop-head-smaller c =
     let inner = c.args.inner in
     let outer = p inner in
     let by = to_z w64 (of_z w64 c.args.by) in
-    let w = at l.queue l.head in
     let inside = c.loop-head-test.true in
     let st = l.invariant in
-    let sw = (st.listed l.head inside).0 in
-    let node : w < n = (st.node w sw).0.0 in
-    let sizes = c.requires.sizes in
-    let lens = c.requires.lens in
     let small : l.tail < n = tail_small (bare n) k p (at l.queue) (at c.args.depth.now) (at l.depth)
     (price_at c.args.price.now) (price_at l.price) inner outer by l.head l.tail l.last 2 st in
-    let queue_a = l.auto.queue in
-    let queue_b = c.queued-tail.auto.queue in
-    let depth_a = simp (length-set {A = ℕ}) at l.auto.depth in
-    let price_a = l.auto.price in
-    let price_b = c.raise.auto.price in
     omega (arith, inside, small)
 
 pub loop-head-preserved : goal.loop-head-preserved
@@ -417,7 +289,6 @@ loop-head-preserved c =
     let st = l.invariant in
     let sw = (st.listed l.head inside).0 in
     let node : w < n = (st.node w sw).0.0 in
-    let sizes = c.requires.sizes in
     let lens = c.requires.lens in
     let small : l.tail < n = tail_small (bare n) k p (at l.queue) (at c.args.depth.now) (at l.depth)
     (price_at c.args.price.now) (price_at l.price) inner outer by l.head l.tail l.last 2 st in
@@ -440,7 +311,6 @@ loop-head-preserved c =
     c.queued-mid.result c.queued-tail-in-loop-head.result l.last w st inside refl
     c.queued-mid.ensures.none c.queued-mid.ensures.one c.queued-tail-in-loop-head.ensures.none
     c.queued-tail-in-loop-head.ensures.one in
-    let queue_c = c.queued-mid.auto.queue in
     let in_mid : c.queued-mid.result < length (set l.queue l.tail (k.first w)) =
     rw (length-set l.queue l.tail (k.first w)) (omega (arith, room, queue_a, queue_b, lens)) in
     let in_queue : l.tail < length l.queue = omega (arith, small, queue_a, queue_b, lens) in
