@@ -17,10 +17,12 @@ use Rattle.plain_certificates.specs.Tables.{at as flag_at}
 use Rattle.net_simplex.proofs.Barriers.{above_0, below_0, over, under}
 use Rattle.net_simplex.proofs.Ended.{basic, feasible, optimal}
 use Rattle.net_simplex.specs.Answers.{IsBest}
-use Rattle.net_simplex.specs.Given.{IsSide}
-use Rattle.net_simplex.specs.Network.{IsExcess, IsNetwork, IsWeighed}
+use Rattle.task_bounds.specs.Excess.{IsExcess}
+use Rattle.net_simplex.specs.Network.{IsNetwork, IsWeighed}
 use Rattle.net_simplex.specs.Solved.{IsLast, IsEndless}
-use Rattle.net_simplex.specs.Told.{AreFlows, ArePotentials, IsToldOf}
+use Rattle.task_bounds.specs.Given.{AreFlows}
+use Rattle.net_simplex.specs.Told.{ArePotentials, AreSides, IsSide}
+use Rattle.task_bounds.specs.Barriers.{IsToldOf}
 
 -- ---- sides
 
@@ -96,12 +98,12 @@ module _ (g : Numbered) (bounds : Bounds) (excess : ℕ → ℤ) (t : Task) (c :
     below = below_0 g bounds excess t c h f y nw ex last.running flow_of (λ k l. refl) last.costed w
         last.ends stop set
 
-    pub is_barrier : (is_over : Bool) (short : ℕ) → IsToldOf g lower upper supply y is_over b
-        → short < g.nodes → 0 < f (g.arcs + short)
+    pub is_barrier : (is_over : Bool) (short : ℕ) → IsToldOf g lower upper supply is_over b
+        → AreSides g.nodes y is_over b.nodes → short < g.nodes → 0 < f (g.arcs + short)
         → IsSide true (y short) is_over
         → IsBarrier g bounds is_over set b.supply b.limit
-    is_barrier true short told l some low =
-        let sides = told.sides.each in
+    is_barrier true short told are l some low =
+        let sides = are.each in
         let leave = upper_at (leaves g set) in
         let enter = lower_at (enters g set) in
         over g bounds excess t c h f y nw ex last.running flow_of (λ k q. refl) last.costed w
@@ -111,8 +113,8 @@ module _ (g : Numbered) (bounds : Bounds) (excess : ℕ → ℤ) (t : Task) (c :
         short l (side_true true (set short) (y short) (sides short l) low) some b.supply
         b.limit (told.supply_is ∙ supplied)
         (let is = told.limit_is in omega (arith, ints, is, leave, enter))
-    is_barrier false short told l some low =
-        let sides = told.sides.each in
+    is_barrier false short told are l some low =
+        let sides = are.each in
         let leave = lower_at (leaves g set) in
         let enter = upper_at (enters g set) in
         under g bounds excess t c h f y nw ex last.running flow_of (λ k q. refl) last.costed w

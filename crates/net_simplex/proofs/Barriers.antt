@@ -17,7 +17,8 @@ use Rattle.pivot_flow.specs.State.{IsCosted}
 use Rattle.pivot_flow.specs.Tree.{IsLow, Task, Tree}
 use Rattle.net_simplex.proofs.Ended.{span_full, supplied, free_at}
 use Rattle.net_simplex.proofs.Sides.{IsRim, IsShut, shut, two_sides}
-use Rattle.net_simplex.specs.Network.{IsNetwork, IsRunning, IsExcess, IsWeighed, added}
+use Rattle.net_simplex.specs.Network.{IsNetwork, IsRunning, IsWeighed, added}
+use Rattle.task_bounds.specs.Excess.{IsExcess}
 use Rattle.net_simplex.proofs.Crossing.{carried_in, carried_out, enters_by, leaves_by, some_where}
 use Rattle.net_simplex.proofs.Crossing.{sum_where-neg}
 

@@ -9,7 +9,7 @@ use Rattle.pivot_flow.specs.Spread.{price_at}
 use Rattle.pivot_flow.specs.Tree.{at, ends_at}
 use Rattle.pivot_flow.specs.declared.look.Ends.{Ends}
 use Rattle.plain_certificates.specs.Numbered.{Numbered}
-use Rattle.net_simplex.proofs.Filled.{set_here, set_other}
+use Rattle.task_bounds.proofs.Filled.{set_here, set_other}
 use Rattle.net_simplex.specs.Start.{AreEnds, AreFirstPrices, AreLoads, IsFirstFlow}
 use Rattle.net_simplex.specs.Start.{IsFirstTree, IsSpoke}
 

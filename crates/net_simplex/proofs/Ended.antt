@@ -18,7 +18,9 @@ use Rattle.pivot_flow.specs.State.{cap_bounds}
 use Rattle.pivot_flow.specs.Tree.{Task, Tree}
 use Rattle.net_simplex.proofs.Best.{best_where}
 use Rattle.net_simplex.proofs.Rim.{net_rooted}
-use Rattle.net_simplex.specs.Network.{IsSpan, IsNetwork, IsRunning, IsExcess, added}
+use Rattle.task_bounds.specs.Given.{IsSpan}
+use Rattle.net_simplex.specs.Network.{IsNetwork, IsRunning, added}
+use Rattle.task_bounds.specs.Excess.{IsExcess}
 
 -- ---- one arc
 

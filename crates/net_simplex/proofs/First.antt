@@ -18,20 +18,24 @@ use Rattle.pivot_flow.specs.Tree.{at, ends_at, task_of, tree_of}
 use Rattle.pivot_flow.specs.declared.look.Ends.{Ends}
 use Rattle.net_simplex.proofs.Planting.{planted_state, planted_kids}
 use Rattle.net_simplex.proofs.Rim.{net_rooted, sum_to-split}
-use Rattle.net_simplex.specs.Network.{AreCaps, IsRooted, IsWeighed}
+use Rattle.task_bounds.specs.Plan.{AreCaps}
+use Rattle.net_simplex.specs.Network.{IsRooted, IsWeighed}
 use Rattle.net_simplex.specs.Planted.{IsPlanted}
-use Rattle.net_simplex.specs.Start.{AreLight, IsFirstFlow, IsFirstTree}
-use Rattle.net_simplex.specs.Start.{weight}
-use Rattle.net_simplex.proofs.Spokes.{at_end-most, spoke_adds, spoke_carries, spoke_down}
-use Rattle.net_simplex.proofs.Spokes.{spoke_joins, spoke_small, spoke_up, sum_to-const}
-use Rattle.net_simplex.proofs.Spokes.{total_weight, weight_most}
+use Rattle.task_bounds.specs.Excess.{AreLight}
+use Rattle.net_simplex.specs.Start.{IsFirstFlow, IsFirstTree}
+use Rattle.task_bounds.specs.Excess.{weight}
+use Rattle.task_bounds.proofs.Weighing.{at_end-most}
+use Rattle.net_simplex.proofs.Spokes.{spoke_adds, spoke_carries, spoke_down}
+use Rattle.net_simplex.proofs.Spokes.{spoke_joins, spoke_small, spoke_up}
+use Rattle.task_bounds.proofs.Weighing.{sum_to-const}
+use Rattle.task_bounds.proofs.Weighing.{total_weight, weight_most}
 
 -- ---- the first state
 
 module _ (g : Numbered) (excess : ℕ → ℤ) (ends : List Ends) (cap flow : List ℕ)
     (cost price : List ℤ) (parent arc depth first next prev : List ℕ) (nodes_few : g.nodes ≤ 2 ^ 20)
     (arcs_few : g.arcs ≤ 2 ^ 22) (shape : EndsAreNodes g) (light : AreLight g excess)
-    (caps : AreCaps g cap)
+    (caps : AreCaps g g.nodes cap)
     (w : IsWeighed g (price_at cost)) (b : IsFirstFlow g excess ends flow price)
     (tr : IsFirstTree g.nodes g.arcs parent arc depth first next prev) (count : ℕ)
     (count_is : count ≡ g.nodes + 1) where

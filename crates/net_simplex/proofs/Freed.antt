@@ -10,7 +10,7 @@ use Rattle.plain_certificates.specs.Tables.{at}
 use Rattle.plain_certificates.specs.Walks.{along}
 use Rattle.net_simplex.proofs.Ended.{span_open}
 use Rattle.net_simplex.specs.Cycles.{IsFree}
-use Rattle.net_simplex.specs.Network.{IsSpan}
+use Rattle.task_bounds.specs.Given.{IsSpan}
 
 module _ (g : Numbered) (cap : ℕ → ℕ) where
   along_same : (c cost : ℕ → ℤ) → ((k : ℕ) → k < g.arcs → c k ≡ cost k) → (xs : List ℕ)

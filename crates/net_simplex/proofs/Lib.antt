@@ -9,14 +9,10 @@ pub mod Crossing
 pub mod Barriers
 pub mod Spokes
 pub mod First
-pub mod Filled
-pub mod Taking
 pub mod Frees
 pub mod Begun
 pub mod Climbed
-pub mod Summing
 pub mod Answered
-pub mod Readied
 pub mod Freed
 pub mod Endlessly
 pub mod Settled

@@ -4,9 +4,11 @@ use Rattle.std.proofs.Common.{Option, None, Some, refl, ap, ◌∙◌, subst, ar
 use Rattle.std.specs.Prelude.{MatchOption}
 use Rattle.plain_certificates.specs.Numbered.{Numbered}
 use Rattle.plain_certificates.specs.Tables.{at}
-use Rattle.net_simplex.specs.Answers.{IsValue}
-use Rattle.net_simplex.specs.Network.{AreCaps, IsWeighed}
-use Rattle.net_simplex.specs.Plan.{AreSmall, AreWeights}
+use Rattle.task_bounds.specs.Given.{IsValue}
+use Rattle.task_bounds.specs.Plan.{AreCaps}
+use Rattle.net_simplex.specs.Network.{IsWeighed}
+use Rattle.task_bounds.specs.Plan.{AreSmall}
+use Rattle.net_simplex.specs.Weights.{AreWeights}
 use Rattle.net_simplex.specs.Solved.{IsSolved}
 use Rattle.net_simplex.specs.declared.solved.Solved.{Solved}
 
@@ -23,7 +25,7 @@ weighed_by g cost weights small w = record {
 
 -- what an arc carries is at most its capacity
 pub sent_most : (g : Numbered) (excess : ℕ → ℤ) (cap : List ℕ) (cost : List ℤ) (solved : Solved)
-    → AreCaps g cap → IsSolved g excess cap cost solved → (k : ℕ) → k < g.arcs
+    → AreCaps g g.nodes cap → IsSolved g excess cap cost solved → (k : ℕ) → k < g.arcs
     → at 0 solved.flow.sent.items k ≤ 2 ^ 62
 sent_most g excess cap cost solved caps is k l =
     let all = is.last.rooted.arcs in

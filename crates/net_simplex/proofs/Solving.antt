@@ -16,10 +16,12 @@ use Rattle.pivot_flow.specs.declared.pivots.Endless.{Endless}
 use Rattle.net_simplex.proofs.First.{all_light, first_costed, first_ends, first_free, first_kids}
 use Rattle.net_simplex.proofs.First.{first_roomy, first_rooted, first_sends, first_state, size}
 use Rattle.net_simplex.proofs.First.{sized}
-use Rattle.net_simplex.specs.Network.{AreCaps, IsWeighed}
+use Rattle.task_bounds.specs.Plan.{AreCaps}
+use Rattle.net_simplex.specs.Network.{IsWeighed}
 use Rattle.net_simplex.specs.Solved.{IsEndless, IsLast, IsSolved}
 use Rattle.net_simplex.specs.declared.solved.Solved.{Solved}
-use Rattle.net_simplex.specs.Start.{AreLight, IsFirstFlow, IsFirstTree}
+use Rattle.task_bounds.specs.Excess.{AreLight}
+use Rattle.net_simplex.specs.Start.{IsFirstFlow, IsFirstTree}
 
 -- all that a run asks of the lists that it begins with
 pub record IsBegun (count : ℕ) (ends : List Ends) (cap flow : List ℕ) (cost price : List ℤ)
@@ -50,7 +52,7 @@ pub record IsRun (count : ℕ) (ends : List Ends) (cap began : List ℕ) (cost :
 module _ (g : Numbered) (excess : ℕ → ℤ) (ends : List Ends) (cap flow : List ℕ)
     (cost price : List ℤ) (parent arc depth first next prev : List ℕ) (nodes_few : g.nodes ≤ 2 ^ 20)
     (arcs_few : g.arcs ≤ 2 ^ 22) (shape : EndsAreNodes g) (light : AreLight g excess)
-    (caps : AreCaps g cap) (w : IsWeighed g (price_at cost))
+    (caps : AreCaps g g.nodes cap) (w : IsWeighed g (price_at cost))
     (b : IsFirstFlow g excess ends flow price)
     (tr : IsFirstTree g.nodes g.arcs parent arc depth first next prev) (count : ℕ)
     (count_is : count ≡ g.nodes + 1) where

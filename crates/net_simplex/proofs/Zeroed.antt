@@ -8,7 +8,8 @@ use Rattle.plain_certificates.specs.Numbered.{Numbered}
 use Rattle.plain_certificates.specs.Tables.{at}
 use Rattle.net_simplex.proofs.Settled.{weighed_by}
 use Rattle.net_simplex.specs.Network.{IsWeighed}
-use Rattle.net_simplex.specs.Plan.{AreSmall, AreWeights}
+use Rattle.task_bounds.specs.Plan.{AreSmall}
+use Rattle.net_simplex.specs.Weights.{AreWeights}
 
 zero_at : (m k : ℕ) (zeros : List ℤ) → zeros ≡ replicate m (pos 0) → k < m
     → at (pos 0) zeros k ≡ pos 0

@@ -2,9 +2,7 @@ pub mod Answers
 pub mod Network
 pub mod Planted
 pub mod Start
-pub mod Given
-pub mod Excess
 pub mod Cycles
 pub mod Solved
 pub mod Told
-pub mod Plan
+pub mod Weights

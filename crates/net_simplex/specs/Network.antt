@@ -1,19 +1,14 @@
 -- The network of a task: its digraph with an added root, which has an open arc to or from each
 -- node, and the state that a run leaves.
-use Rattle.std.specs.Prelude.{◌≡◌, ◌⊎◌, ℕ, ◌+◌, ◌<◌, ◌≤◌, ◌^◌, ◌==◌, cond, ℤ, pos, neg_ℤ, ◌+ℤ◌}
+use Rattle.std.specs.Prelude.{◌≡◌, ℕ, ◌+◌, ◌<◌, ◌^◌, ◌==◌, cond, ℤ, pos, neg_ℤ}
 use Rattle.std.specs.Prelude.{◌≤ℤ◌, ◌<ℤ◌}
-use Rattle.std.specs.Prelude.{List, length, Option, None, Some}
-use Rattle.plain_certificates.specs.Numbered.{Numbered, EndsAreNodes, net}
+use Rattle.plain_certificates.specs.Numbered.{Numbered, EndsAreNodes}
 use Rattle.plain_certificates.specs.Feasible.{Bounds}
 use Rattle.plain_certificates.specs.Rooms.{Joins}
+use Rattle.task_bounds.specs.Given.{IsSpan}
 use Rattle.pivot_flow.specs.Open.{IsOpenFree, most_of}
 use Rattle.pivot_flow.specs.State.{IsState}
-use Rattle.pivot_flow.specs.Tree.{Task, Tree, at}
-
--- the room between the bounds of an arc, where a capacity of 2^62 stands for no upper bound
-abbrev pub IsSpan : ℤ → Option ℤ → ℕ → Type 0
-IsSpan lower None cap = cap ≡ 2 ^ 62
-IsSpan lower (Some upper) cap = (lower +ℤ pos cap ≡ upper) × (cap ≤ 2 ^ 37)
+use Rattle.pivot_flow.specs.Tree.{Task, Tree}
 
 -- the network is the digraph with a root, which has an arc to or from each node
 pub record IsRooted (g : Numbered) (t : Task) : Type 0 where
@@ -53,14 +48,3 @@ pub record IsRunning (g : Numbered) (excess : ℕ → ℤ) (t : Task) (cost : �
   pub size : ℕ → ℤ
   pub sized : (v : ℕ) → v < t.net.nodes → (neg_ℤ (size v) ≤ℤ sends v) × (sends v ≤ℤ size v)
   pub light : most_of t size (2 ^ 37) <ℤ pos (2 ^ 61)
-
--- the number is what the node supplies above what the lower bounds send out of it
-abbrev pub IsExcess : Numbered → Bounds → (ℕ → ℤ) → Type 0
-IsExcess g bounds excess =
-    (v : ℕ) → v < g.nodes → excess v +ℤ net g bounds.lower v ≡ bounds.supply v
-
--- a capacity for each arc of the network: the added ones are open
-pub record AreCaps (g : Numbered) (cap : List ℕ) : Type 0 where
-  pub all : length cap ≡ g.arcs + g.nodes
-  pub inner : (k : ℕ) → k < g.arcs → (at cap k ≤ 2 ^ 37) ⊎ (at cap k ≡ 2 ^ 62)
-  pub rim : (v : ℕ) → v < g.nodes → at cap (g.arcs + v) ≡ 2 ^ 62

@@ -1,23 +1,10 @@
 -- How a run begins: what its lists have.
-use Rattle.std.specs.Prelude.{◌≡◌, ◌⊎◌, ◌==◌, ℕ, ◌+◌, ◌<◌, ◌≤◌, ◌^◌, ℤ, pos, neg_ℤ, ◌+ℤ◌, ◌≤ℤ◌}
+use Rattle.std.specs.Prelude.{◌≡◌, ◌⊎◌, ℕ, ◌+◌, ◌<◌, ◌≤◌, ◌^◌, ℤ, pos, neg_ℤ, ◌≤ℤ◌}
 use Rattle.std.specs.Prelude.{◌<ℤ◌, List, length}
-use Rattle.plain_certificates.specs.Numbered.{Numbered, sum_where}
+use Rattle.plain_certificates.specs.Numbered.{Numbered}
 use Rattle.pivot_flow.specs.Spread.{price_at}
 use Rattle.pivot_flow.specs.Tree.{at, ends_at}
 use Rattle.pivot_flow.specs.declared.look.Ends.{Ends}
-
--- a bound of what a node has to send: 2^36, and as much again for each end of an arc at it
-abbrev pub weight : Numbered → ℕ → ℤ
-weight g node =
-    pos (2 ^ 36)
-    +ℤ (sum_where g.arcs (λ arc. g.from arc == node) (λ _. pos (2 ^ 36))
-    +ℤ sum_where g.arcs (λ arc. g.to arc == node) (λ _. pos (2 ^ 36)))
-
--- each node has at most as much to send, or to take
-abbrev pub AreLight : Numbered → (ℕ → ℤ) → Type 0
-AreLight g excess =
-    (v : ℕ) → v < g.nodes
-    → (neg_ℤ (weight g v) ≤ℤ excess v) × (excess v ≤ℤ weight g v)
 
 -- the added arc of a node that has something to send carries it to the root
 pub record IsOut (root v : ℕ) (excess : ℤ) (end : Ends) (flow : ℕ) (price : ℤ) : Type 0 where

@@ -6,20 +6,22 @@ ghost use Rattle.std.specs.Option.{option_copied};
 ghost use Rattle.plain_certificates.specs.Feasible.{Bounds};
 ghost use Rattle.plain_certificates.specs.Tables.{at};
 ghost use Rattle.static_digraph.specs.Fixed.{graph_of};
-ghost use Rattle.net_simplex.specs.Answers.{AreGiven, AreOrdered, Answers, IsValue, bounds_given};
+ghost use Rattle.task_bounds.specs.Given.{AreGiven, AreOrdered, IsValue, bounds_given};
+ghost use Rattle.net_simplex.specs.Answers.{Answers};
 ghost use Rattle.net_simplex.specs.Cycles.{IsFree};
 ghost use Rattle.net_simplex.specs.Network.{IsWeighed};
-ghost use Rattle.net_simplex.specs.Plan.{AreSmall, AreWeights, IsReady, IsReadyFor};
+ghost use Rattle.task_bounds.specs.Plan.{AreSmall, IsReady, IsReadyFor};
+ghost use Rattle.net_simplex.specs.Weights.{AreWeights};
 ghost use Rattle.net_simplex.specs.Solved.{IsSolved};
 
 use crate::cycle::cycle_of;
-use crate::plan::{Plan, plan_of, weights_of};
 use crate::solved::{Solved, solve_network};
-use crate::sums::{cost_along, cost_of};
-use crate::told::{barrier_of, first_short, flows_of, is_side, potentials_of};
+use crate::told::{is_side, potentials_of, sides_of};
+use crate::weights::weights_of;
 use base_items::List;
 use static_digraph::{CostAnswer, Fixed};
 use std::alloc::{AllocError, Global};
+use task_bounds::{Plan, barrier_of, cost_along, cost_of, first_positive, flows_of, plan_of};
 
 /// The barrier that a node whose added arc still carries something shows.
 fn barred(
@@ -29,7 +31,7 @@ fn barred(
     solved: &Solved,
     v: usize,
 ) -> Result<CostAnswer, AllocError>
-    requires ready { IsReady (graph_of g.now) plan.now }
+    requires ready { IsReady (graph_of g.now) (graph_of g.now).nodes plan.now }
     requires stopped { solved.now.endless ≡ None }
     requires node { v < (graph_of g.now).nodes }
     requires short { 0 < at 0 solved.now.flow.sent.items ((graph_of g.now).arcs + v) }
@@ -41,15 +43,8 @@ fn barred(
         solved.now → IfOk result (Answers (graph_of g.now) bounds cost) }
 {
     let over = is_side(solved.flow.price[v], true);
-    let barrier = barrier_of(
-        alloc,
-        g,
-        &plan.lower,
-        &plan.upper,
-        &plan.supply,
-        &solved.flow.price,
-        over,
-    )?;
+    let side = sides_of(alloc, &solved.flow.price, over, g.node_count() as usize)?;
+    let barrier = barrier_of(g, plan, List::from_vec(side), over);
     Ok(CostAnswer::Barrier(barrier))
 }
 
@@ -62,7 +57,7 @@ fn settle(
     weights: &[i64],
     solved: &Solved,
 ) -> Result<CostAnswer, AllocError>
-    requires ready { IsReady (graph_of g.now) plan.now }
+    requires ready { IsReady (graph_of g.now) (graph_of g.now).nodes plan.now }
     requires cost { AreSmall (graph_of g.now).arcs cost.now }
     requires weights { AreWeights (graph_of g.now).arcs (graph_of g.now).nodes (at (pos 0) cost.now)
         weights.now }
@@ -72,7 +67,7 @@ fn settle(
     ensures { (bounds : Bounds) → IsReadyFor (graph_of g.now) bounds plan.now
         → IfOk result (Answers (graph_of g.now) bounds (at (pos 0) cost.now)) }
 {
-    if let Some(v) = first_short(&solved.flow.sent, g.arc_count() as usize) {
+    if let Some(v) = first_positive(&solved.flow.sent, g.arc_count() as usize) {
         return barred(alloc, g, plan, solved, v);
     }
     let flow = flows_of(alloc, &plan.lower, &solved.flow.sent)?;
@@ -94,7 +89,7 @@ fn freed(
     cycle: Vec<u32>,
     solved: &Solved,
 ) -> Result<CostAnswer, AllocError>
-    requires ready { IsReady (graph_of g.now) plan.now }
+    requires ready { IsReady (graph_of g.now) (graph_of g.now).nodes plan.now }
     requires cost { AreSmall (graph_of g.now).arcs cost.now }
     requires cycle { IsFree (graph_of g.now) (at 0 plan.now.caps.items) (at (pos 0) cost.now)
         cycle.items }
@@ -109,7 +104,7 @@ fn freed(
         → IsSolved (graph_of g.now) (at (pos 0) plan.now.excess.items) plan.now.caps.items weights
         solved.now → IfOk result (Answers (graph_of g.now) bounds (at (pos 0) cost.now)) }
 {
-    if let Some(v) = first_short(&solved.flow.sent, g.arc_count() as usize) {
+    if let Some(v) = first_positive(&solved.flow.sent, g.arc_count() as usize) {
         return barred(alloc, g, plan, solved, v);
     }
     let flow = flows_of(alloc, &plan.lower, &solved.flow.sent)?;
@@ -130,7 +125,7 @@ fn settle_free(
     cost: &[i64],
     cycle: Vec<u32>,
 ) -> Result<CostAnswer, AllocError>
-    requires ready { IsReady (graph_of g.now) plan.now }
+    requires ready { IsReady (graph_of g.now) (graph_of g.now).nodes plan.now }
     requires cost { AreSmall (graph_of g.now).arcs cost.now }
     requires cycle { IsFree (graph_of g.now) (at 0 plan.now.caps.items) (at (pos 0) cost.now)
         cycle.items }
@@ -173,8 +168,9 @@ pub fn simplex(
         (option_copied supply.entry))
         (at (pos 0) cost.now)) }
 {
-    let plan = plan_of(alloc, g, lower, upper, supply)?;
-    let weights = weights_of(alloc, cost, g.node_count() as usize)?;
+    let nodes = g.node_count() as usize;
+    let plan = plan_of(alloc, g, lower, upper, supply, nodes)?;
+    let weights = weights_of(alloc, cost, nodes)?;
     let solved = solve_network(alloc, g, &plan.excess, &plan.caps, &weights)?;
     match solved.endless {
         None => settle(alloc, g, &plan, cost, &weights, &solved),

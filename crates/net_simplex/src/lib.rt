@@ -3,12 +3,9 @@
 
 mod answer;
 mod cycle;
-mod excess;
-mod given;
-mod plan;
 mod solved;
 mod start;
-mod sums;
 mod told;
+mod weights;
 
 pub use answer::simplex;

@@ -3,9 +3,10 @@
 ghost use Rattle.std.specs.Prelude.{◌≡◌, ◌+◌, ◌<◌, ◌≤◌, ◌^◌, length, IfOk, pos};
 ghost use Rattle.plain_certificates.specs.Tables.{at};
 ghost use Rattle.static_digraph.specs.Fixed.{graph_of};
-ghost use Rattle.net_simplex.specs.Network.{AreCaps, IsWeighed};
+ghost use Rattle.task_bounds.specs.Plan.{AreCaps};
+ghost use Rattle.net_simplex.specs.Network.{IsWeighed};
 ghost use Rattle.net_simplex.specs.Solved.{IsSolved};
-ghost use Rattle.net_simplex.specs.Start.{AreLight};
+ghost use Rattle.task_bounds.specs.Excess.{AreLight};
 
 use crate::start::{Flow, Tree, first_flow, first_tree};
 use pivot_flow::{Endless, solve};
@@ -42,7 +43,7 @@ pub fn solve_network(
 ) -> Result<Solved, AllocError>
     requires nodes { length excess.now ≡ (graph_of g.now).nodes }
     requires light { AreLight (graph_of g.now) (at (pos 0) excess.now) }
-    requires caps { AreCaps (graph_of g.now) cap.now }
+    requires caps { AreCaps (graph_of g.now) (graph_of g.now).nodes cap.now }
     requires costs { length cost.now ≡ (graph_of g.now).arcs + (graph_of g.now).nodes }
     requires weighed { IsWeighed (graph_of g.now) (at (pos 0) cost.now) }
     ensures { IfOk result (IsSolved (graph_of g.now) (at (pos 0) excess.now) cap.now cost.now) }

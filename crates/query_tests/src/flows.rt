@@ -1,11 +1,8 @@
 //! Cheapest flows by the network simplex method, against answers worked out by hand.
 
-ghost use Rattle.std.specs.Prelude.{◌≡◌, ℕ, ◌<◌, true, All};
-ghost use Rattle.std.specs.Option.{option_copied};
-ghost use Rattle.plain_certificates.specs.Feasible.{IsAtMost};
-ghost use Rattle.net_simplex.specs.Answers.{AreGiven, IsValue, given, upper_given};
-
-use crate::tasks::{are_within, digraph};
+use crate::bounds::{are_given, are_ordered, are_values};
+use crate::tasks::digraph;
+use crate::texts::{push_barrier, push_values};
 use net_simplex::simplex;
 use static_digraph::CostAnswer;
 use std::alloc::{AllocError, Global};
@@ -140,69 +137,6 @@ const CYCLES: [Row; 2] = [
     },
 ];
 
-// Whether all are values that the libraries take.
-fn are_values(values: &[i64]) -> bool
-    ensures { result ≡ true → All IsValue values.now }
-{
-    are_within(values, -68719476736, 68719476736)
-}
-
-// Whether there are so many values, or none at all.
-fn are_given(values: Option<&[i64]>, count: usize) -> bool
-    ensures { result ≡ true → AreGiven count (option_copied values.entry) }
-{
-    match values {
-        Some(values) => values.len() == count && are_values(values),
-        None => true,
-    }
-}
-
-// The value at a place, and 0 where none are given.
-fn value_at(values: Option<&[i64]>, place: usize) -> i64
-    ensures { result ≡ given (option_copied values.entry) place }
-{
-    match values {
-        Some(values) => {
-            if place < values.len() {
-                values[place]
-            } else {
-                0
-            }
-        }
-        None => 0,
-    }
-}
-
-// Whether each lower bound is at most the upper one.
-fn are_ordered(lower: Option<&[i64]>, upper: Option<&[i64]>, count: usize) -> bool
-    ensures { result ≡ true → (k : ℕ) → k < count
-        → IsAtMost (given (option_copied lower.entry) k)
-        (upper_given (option_copied upper.entry) k) }
-{
-    let Some(upper) = upper else {
-        return true;
-    };
-    if upper.len() != count {
-        return false;
-    }
-    let mut place = 0;
-    'on: while place < upper.len() {
-        if value_at(lower, place) > upper[place] {
-            return false;
-        }
-        place += 1;
-    }
-    true
-}
-
-// The values, each behind a blank.
-fn push_values(text: &mut String, values: &[i64]) -> Result<(), AllocError> {
-    for value in values {
-        write!(text, " {value}")?;
-    }
-    Ok(())
-}
-
 // What was found, as a row has it.
 fn push_answer(text: &mut String, answer: &CostAnswer) -> Result<(), AllocError> {
     match answer {
@@ -211,15 +145,7 @@ fn push_answer(text: &mut String, answer: &CostAnswer) -> Result<(), AllocError>
             push_values(text, flow.as_slice())?;
             write!(text, "; cost {cost}")?;
         }
-        CostAnswer::Barrier(barrier) => {
-            text.push_str(if barrier.over { "over" } else { "under" })?;
-            for inside in barrier.nodes.as_slice() {
-                text.push_str(if *inside { " 1" } else { " 0" })?;
-            }
-            let way = if barrier.over { "above" } else { "below" };
-            let (supply, limit) = (barrier.supply, barrier.limit);
-            write!(text, "; {supply} {way} {limit}")?;
-        }
+        CostAnswer::Barrier(barrier) => push_barrier(text, barrier)?,
         CostAnswer::FreeCycle {
             flow: _,
             cycle,

@@ -1,4 +1,4 @@
-use Rattle.std.proofs.Common.{◌≡◌, ◌<◌, ◌∙◌, ℕ, ℤ, List, length, true, false, pos, to_z, of_z, w64}
+use Rattle.std.proofs.Common.{◌≡◌, ◌∙◌, length, true, false, pos, to_z, of_z, w64}
 use Rattle.std.proofs.Common.{sym, ap, subst, arith}
 use Rattle.std.proofs.lemmas.Int.{ints}
 use Rattle.std.proofs.lemmas.List.{get_or_default}
@@ -8,44 +8,20 @@ use Rattle.plain_certificates.specs.Feasible.{IsBarrier}
 use Rattle.plain_certificates.specs.Tables.{at}
 use Rattle.static_digraph.specs.Fixed.{graph_of}
 use Rattle.net_simplex.proofs.Answered.{is_barrier}
-use Rattle.net_simplex.specs.Answers.{IsValue}
-use Rattle.net_simplex.specs.Given.{IsSide}
+use Rattle.net_simplex.specs.Told.{AreSides, IsSide}
 use Rattle.net_simplex.specs.Network.{IsNetwork}
 use Rattle.net_simplex.proofs.answer.barred.Goals as goal
 
-all_small : (count : ℕ) (xs ys : List ℤ) → xs ≡ ys → length ys ≡ count
-    → ((k : ℕ) → k < count → IsValue (at (pos 0) ys k))
-    → (k : ℕ) → k < length xs → IsValue (at (pos 0) xs k)
-all_small count xs ys is all small =
-    subst (λ zs. (k : ℕ) → k < length zs → IsValue (at (pos 0) zs k)) (sym is)
-    (λ k l. small k (omega (arith, l, all)))
-
-pub barrier_of-requires-clause-arcs : goal.barrier_of-requires-clause-arcs
-barrier_of-requires-clause-arcs c = (
-  ap length c.deref.ensures.value ∙ c.requires.ready.lower.all,
-  ap length c.deref-2.ensures.value ∙ c.requires.ready.upper.all,
-)
-
-pub barrier_of-requires-clause-nodes : goal.barrier_of-requires-clause-nodes
-barrier_of-requires-clause-nodes c =
-    let price = ap length c.deref-4.ensures.value in
+pub sides_of-requires : goal.sides_of-requires
+sides_of-requires c =
+    let price = ap length c.deref.ensures.value in
     let all = c.requires.prices in
-    (ap length c.deref-3.ensures.value ∙ c.requires.ready.supply.all, omega (arith, price, all))
+    let count = c.node_count.ensures.count in
+    omega (arith, price, all, count)
 
-pub barrier_of-requires-clause-lower : goal.barrier_of-requires-clause-lower
-barrier_of-requires-clause-lower c =
-    all_small (length c.args.g.now.arcs) c.deref.result.now c.args.plan.now.lower.items
-    c.deref.ensures.value c.requires.ready.lower.all c.requires.ready.lower.small
-
-pub barrier_of-requires-clause-upper : goal.barrier_of-requires-clause-upper
-barrier_of-requires-clause-upper c =
-    all_small (length c.args.g.now.arcs) c.deref-2.result.now c.args.plan.now.upper.items
-    c.deref-2.ensures.value c.requires.ready.upper.all c.requires.ready.upper.small
-
-pub barrier_of-requires-clause-supply : goal.barrier_of-requires-clause-supply
-barrier_of-requires-clause-supply c =
-    all_small (length c.args.g.now.nodes) c.deref-3.result.now c.args.plan.now.supply.items
-    c.deref-3.ensures.value c.requires.ready.supply.all c.requires.ready.supply.small
+pub barrier_of-barrier-requires-clause-nodes : goal.barrier_of-barrier-requires-clause-nodes
+barrier_of-barrier-requires-clause-nodes c =
+    ap length c.from_vec.ensures ∙ (c.in_ok-side.ensures.all ∙ c.node_count.ensures.count)
 
 pub returns : goal.returns
 returns c =
@@ -53,7 +29,7 @@ returns c =
     let plan = c.args.plan.now in
     let run = c.args.solved.now in
     let ready = c.requires.ready in
-    let b = c.in_ok-barrier.barrier in
+    let b = c.barrier_of-barrier.result in
     let over = c.is_side-over.result in
     let v = c.args.v in
     λ bounds weights cost task weighed solved.
@@ -61,12 +37,10 @@ returns c =
     let h = tree_of run.tree.parent.items run.tree.arc.items run.tree.depth.items in
     let y = at (pos 0) run.flow.price.items in
     let last = solved.last in
-    let told = rw (
-      c.deref.ensures.value,
-      c.deref-2.ensures.value,
-      c.deref-3.ensures.value,
-      c.deref-4.ensures.value,
-    ) at c.in_ok-barrier.ensures in
+    let told = c.barrier_of-barrier.ensures.told in
+    let sides : AreSides g.nodes y over b.nodes =
+    rw (c.barrier_of-barrier.ensures.nodes, c.from_vec.ensures)
+    (rw (c.node_count.ensures.count, c.deref.ensures.value) at c.in_ok-side.ensures) in
     let nodes = last.rooted.nodes in
     let node = c.requires.node in
     let prices = c.requires.prices in
@@ -89,8 +63,8 @@ returns c =
     let barrier = is_barrier g bounds (at (pos 0) plan.excess.items) t (at (pos 0) weights) h
     (at 0 run.flow.sent.items) y run.endless network task.excess last c.requires.stopped
     (at (pos 0) plan.lower.items) (at (pos 0) plan.upper.items) (at (pos 0) plan.supply.items)
-    task.lower weighed task.upper task.supply b over v told node c.requires.short low in (
-      told.sides.all,
+    task.lower weighed task.upper task.supply b over v told sides node c.requires.short low in (
+      sides.all,
       subst (λ o. IsBarrier g bounds o (at false b.nodes) b.supply b.limit) (sym told.over_is)
           barrier,
     ))

@@ -8,12 +8,12 @@ use Rattle.static_digraph.specs.Fixed.{graph_of}
 use Rattle.net_simplex.proofs.Answered.{is_feasible}
 use Rattle.net_simplex.proofs.Freed.{is_free_cycle, told_free}
 use Rattle.net_simplex.proofs.Settled.{short_found, short_none}
-use Rattle.net_simplex.specs.Answers.{IsValue}
+use Rattle.task_bounds.specs.Given.{IsValue}
 use Rattle.net_simplex.specs.Network.{IsNetwork}
 use Rattle.net_simplex.proofs.answer.freed.Goals as goal
 
-pub first_short-requires : goal.first_short-requires
-first_short-requires c =
+pub first_positive-requires : goal.first_positive-requires
+first_positive-requires c =
     let sent = ap length c.deref.ensures.value in
     let all = c.requires.all in
     let count = c.arc_count.ensures.count in
@@ -22,14 +22,14 @@ first_short-requires c =
 pub barred-requires-clause-node : goal.barred-requires-clause-node
 barred-requires-clause-node c =
     (short_found (graph_of c.args.g.now) c.arc_count.result c.args.solved.now.flow.sent.items
-    c.deref.result.now c.first_short.result c.in-Some.v c.in-Some.is c.arc_count.ensures.count
-    c.deref.ensures.value c.requires.all c.first_short.ensures).0
+    c.deref.result.now c.first_positive.result c.in-Some.v c.in-Some.is c.arc_count.ensures.count
+    c.deref.ensures.value c.requires.all c.first_positive.ensures).0
 
 pub barred-requires-clause-short : goal.barred-requires-clause-short
 barred-requires-clause-short c =
     (short_found (graph_of c.args.g.now) c.arc_count.result c.args.solved.now.flow.sent.items
-    c.deref.result.now c.first_short.result c.in-Some.v c.in-Some.is c.arc_count.ensures.count
-    c.deref.ensures.value c.requires.all c.first_short.ensures).1
+    c.deref.result.now c.first_positive.result c.in-Some.v c.in-Some.is c.arc_count.ensures.count
+    c.deref.ensures.value c.requires.all c.first_positive.ensures).1
 
 pub returns-in-Some : goal.returns-in-Some
 returns-in-Some c = λ bounds weights task weighed solved.
@@ -87,8 +87,8 @@ returns c =
       rim_open = ready.caps.rim;
     } in
     let none = short_none g c.arc_count.result run.flow.sent.items c.deref.result.now
-    c.first_short.result c.in_default.not-Some c.arc_count.ensures.count c.deref.ensures.value
-    c.requires.all c.first_short.ensures in
+    c.first_positive.result c.in_default.not-Some c.arc_count.ensures.count c.deref.ensures.value
+    c.requires.all c.first_positive.ensures in
     let flows = rw (c.deref-2.ensures.value, c.deref-3.ensures.value, ready.lower.all) at
     c.in_ok-flow.ensures in
     let feasible = is_feasible g bounds (at (pos 0) plan.excess.items) t (at (pos 0) weights) h

@@ -6,7 +6,7 @@ use Rattle.static_digraph.specs.Fixed.{graph_of}
 use Rattle.net_simplex.proofs.Cycled.{none_free}
 use Rattle.net_simplex.proofs.Settled.{sent_most}
 use Rattle.net_simplex.proofs.Zeroed.{none_costs, weighed_zero, weights_all}
-use Rattle.net_simplex.specs.Plan.{AreWeights}
+use Rattle.net_simplex.specs.Weights.{AreWeights}
 use Rattle.net_simplex.specs.Solved.{IsSolved}
 use Rattle.net_simplex.proofs.answer.settle_free.Goals as goal
 

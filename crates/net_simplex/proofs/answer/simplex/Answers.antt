@@ -5,8 +5,9 @@ use Rattle.static_digraph.specs.Fixed.{graph_of}
 use Rattle.net_simplex.proofs.Cycled.{from_climbs, hung, inside, is_free, to_climbs}
 use Rattle.net_simplex.proofs.Freed.{free_same}
 use Rattle.net_simplex.proofs.Settled.{weighed_by}
-use Rattle.net_simplex.specs.Answers.{bounds_given}
-use Rattle.net_simplex.specs.Plan.{AreSmall, AreWeights}
+use Rattle.task_bounds.specs.Given.{bounds_given}
+use Rattle.task_bounds.specs.Plan.{AreSmall, IsReady}
+use Rattle.net_simplex.specs.Weights.{AreWeights}
 use Rattle.net_simplex.specs.Solved.{IsSolved}
 use Rattle.net_simplex.proofs.answer.simplex.Goals as goal
 
@@ -14,18 +15,19 @@ pub weights_of-requires : goal.weights_of-requires
 weights_of-requires c =
     let all = c.requires.cost.0 in
     let few = c.in_ok-plan.ensures.ready.few_arcs in
-    let nodes = c.node_count.ensures.few in
+    let nodes = c.node_count-nodes.ensures.few in
     record { few = (omega (arith, all, few), omega (arith, nodes)) }
 
 pub solve_network-requires : goal.solve_network-requires
 solve_network-requires c =
     let g = graph_of c.args.g.now in
     let cost = c.args.cost.now in
-    let ready = c.in_ok-plan.ensures.ready in
+    let ready : IsReady g g.nodes c.in_ok-plan.plan =
+    rw c.node_count-nodes.ensures.count at c.in_ok-plan.ensures.ready in
     let excess = ap length c.deref.ensures.value in
     let excess_all = ready.excess_all in
     let weights : AreWeights g.arcs g.nodes (at (pos 0) cost) c.in_ok-weights.weights.items =
-    rw (c.requires.cost.0, c.node_count.ensures.count) at c.in_ok-weights.ensures in
+    rw (c.requires.cost.0, c.node_count-nodes.ensures.count) at c.in_ok-weights.ensures in
     let small : AreSmall g.arcs cost = record {
       all = c.requires.cost.0;
       small = λ k l. (let all = c.requires.cost.0 in
@@ -46,13 +48,13 @@ settle-requires c =
     let cost = c.args.cost.now in
     let plan = c.in_ok-plan.plan in
     let weights : AreWeights g.arcs g.nodes (at (pos 0) cost) c.in_ok-weights.weights.items =
-    rw (c.requires.cost.0, c.node_count.ensures.count) at c.in_ok-weights.ensures in
+    rw (c.requires.cost.0, c.node_count-nodes.ensures.count) at c.in_ok-weights.ensures in
     let solved : IsSolved g (at (pos 0) plan.excess.items) plan.caps.items
     c.in_ok-weights.weights.items c.in_ok-solved.solved =
     rw (c.deref.ensures.value, c.deref-2.ensures.value, c.deref-3.ensures.value) at
     c.in_ok-solved.ensures in
     record {
-      ready = c.in_ok-plan.ensures.ready;
+      ready = rw c.node_count-nodes.ensures.count at c.in_ok-plan.ensures.ready;
       cost = record {
         all = c.requires.cost.0;
         small = λ k l. (let all = c.requires.cost.0 in
@@ -95,7 +97,7 @@ settle_free-requires c =
     let plan = c.in_ok-plan.plan in
     let run = c.in_ok-solved.solved in
     let weights : AreWeights g.arcs g.nodes (at (pos 0) cost) c.in_ok-weights.weights.items =
-    rw (c.requires.cost.0, c.node_count.ensures.count) at c.in_ok-weights.ensures in
+    rw (c.requires.cost.0, c.node_count-nodes.ensures.count) at c.in_ok-weights.ensures in
     let solved : IsSolved g (at (pos 0) plan.excess.items) plan.caps.items
     c.in_ok-weights.weights.items run =
     rw (c.deref.ensures.value, c.deref-2.ensures.value, c.deref-3.ensures.value) at
@@ -105,7 +107,8 @@ settle_free-requires c =
       small = λ k l. (let all = c.requires.cost.0 in
           c.requires.cost.1 k (pos 0) (omega (arith, l, all)));
     } in
-    let ready = c.in_ok-plan.ensures.ready in
+    let ready : IsReady g g.nodes plan =
+    rw c.node_count-nodes.ensures.count at c.in_ok-plan.ensures.ready in
     record {
       ready = ready;
       cost = small;

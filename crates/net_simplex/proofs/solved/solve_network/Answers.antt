@@ -3,7 +3,7 @@ use Rattle.std.proofs.lemmas.Int.{ints}
 use Rattle.std.proofs.lemmas.List.{with_items_is, places}
 use Rattle.plain_certificates.specs.Tables.{at}
 use Rattle.static_digraph.specs.Fixed.{graph_of}
-use Rattle.net_simplex.proofs.Spokes.{weight_most}
+use Rattle.task_bounds.proofs.Weighing.{weight_most}
 use Rattle.net_simplex.proofs.Solving.{IsBegun, IsRun, begun, ended, is_solved}
 use Rattle.net_simplex.specs.Start.{IsFirstFlow, IsFirstTree}
 use Rattle.net_simplex.proofs.solved.solve_network.Goals as goal
@@ -92,6 +92,7 @@ solve-endless-requires c =
         omega (arith, parent_all, price_all),
         omega (arith, parent_all, lent, queue, held, n),
       );
+      front = omega (arith, ends_all, m);
       block = (c.block_of-block.ensures, omega (arith, ends_all, n, m, n_few, m_few));
       shape = starts.shape;
       costed = starts.costed;

@@ -3,7 +3,7 @@ use Rattle.std.proofs.Math.ListN.{length-set}
 use Rattle.plain_certificates.specs.Tables.{at}
 use Rattle.static_digraph.specs.Fixed.{graph_of}
 use Rattle.net_simplex.specs.Start.{IsEnd}
-use Rattle.net_simplex.proofs.Filled.{set_more}
+use Rattle.task_bounds.proofs.Filled.{set_more}
 use Rattle.net_simplex.proofs.start.ends_of.Goals as goal
 
 pub loop-k-preserved : goal.loop-k-preserved

@@ -2,7 +2,8 @@ use Rattle.std.proofs.Common.{◌≡◌, ◌+◌, ◌∙◌, inl, inr, ap, arith
 use Rattle.std.proofs.Math.ListN.{length-set, set}
 use Rattle.std.proofs.lemmas.Bool.Decides.{eqb_tells, nat_tests}
 use Rattle.net_simplex.proofs.Begun.{tree_begun}
-use Rattle.net_simplex.proofs.Filled.{set_here, set_more, set_other}
+use Rattle.task_bounds.proofs.Filled.{set_here, set_other}
+use Rattle.task_bounds.proofs.Filled.{set_more}
 use Rattle.net_simplex.proofs.start.first_tree.Goals as goal
 
 pub loop-v-preserved : goal.loop-v-preserved

@@ -2,7 +2,7 @@ use Rattle.std.proofs.Common.{◌∙◌, pos, arith}
 use Rattle.std.proofs.Math.ListN.{length-set}
 use Rattle.plain_certificates.specs.Tables.{at}
 use Rattle.net_simplex.specs.Start.{IsLoad}
-use Rattle.net_simplex.proofs.Filled.{set_more}
+use Rattle.task_bounds.proofs.Filled.{set_more}
 use Rattle.net_simplex.proofs.start.loads_of.Goals as goal
 
 pub loop-k-preserved : goal.loop-k-preserved

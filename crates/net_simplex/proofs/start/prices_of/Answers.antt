@@ -6,7 +6,8 @@ use Rattle.std.proofs.lemmas.Int.{ints, to_z-of_z}
 use Rattle.std.proofs.lemmas.Bool.Decides.{nat_tests}
 use Rattle.plain_certificates.specs.Tables.{at}
 use Rattle.net_simplex.specs.Start.{IsFirstPrice}
-use Rattle.net_simplex.proofs.Filled.{set_more, set_other}
+use Rattle.task_bounds.proofs.Filled.{set_more}
+use Rattle.task_bounds.proofs.Filled.{set_other}
 use Rattle.net_simplex.proofs.start.prices_of.Goals as goal
 
 pub loop-v-preserved : goal.loop-v-preserved

@@ -2,7 +2,7 @@ use Rattle.std.proofs.Common.{◌≡◌, ◌<◌, ◌∙◌, length, pos, ◌-�
 use Rattle.std.proofs.Math.ListN.{length-set}
 use Rattle.std.proofs.lemmas.Int.{ints}
 use Rattle.plain_certificates.specs.Tables.{at}
-use Rattle.net_simplex.proofs.Filled.{set_more}
+use Rattle.task_bounds.proofs.Filled.{set_more}
 use Rattle.net_simplex.proofs.told.potentials_of.Goals as goal
 
 pub loop-v-preserved : goal.loop-v-preserved

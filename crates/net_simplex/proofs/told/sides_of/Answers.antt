@@ -2,8 +2,8 @@ use Rattle.std.proofs.Common.{◌∙◌, pos, false, FitsSigned, get_or, w64, su
 use Rattle.std.proofs.Math.ListN.{length-set}
 use Rattle.std.proofs.lemmas.Int.{to_z-of_z}
 use Rattle.plain_certificates.specs.Tables.{at}
-use Rattle.net_simplex.specs.Given.{IsSide}
-use Rattle.net_simplex.proofs.Filled.{set_more}
+use Rattle.net_simplex.specs.Told.{IsSide}
+use Rattle.task_bounds.proofs.Filled.{set_more}
 use Rattle.net_simplex.proofs.told.sides_of.Goals as goal
 
 pub loop-v-preserved : goal.loop-v-preserved

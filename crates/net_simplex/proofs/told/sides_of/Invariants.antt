@@ -1,6 +1,6 @@
 use Rattle.std.proofs.Common.{◌≡◌, ◌<◌, ℕ, pos, false, length}
 use Rattle.plain_certificates.specs.Tables.{at}
-use Rattle.net_simplex.specs.Given.{IsSide}
+use Rattle.net_simplex.specs.Told.{IsSide}
 use Rattle.net_simplex.proofs.told.sides_of.Given as goal
 
 abbrev pub invariant-loop-v : goal.invariant-loop-v

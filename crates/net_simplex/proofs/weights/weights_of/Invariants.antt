@@ -1,6 +1,6 @@
 use Rattle.std.proofs.Common.{◌≡◌, ◌+◌, ◌<◌, ◌^◌, ℕ, pos, length}
 use Rattle.plain_certificates.specs.Tables.{at}
-use Rattle.net_simplex.proofs.plan.weights_of.Given as goal
+use Rattle.net_simplex.proofs.weights.weights_of.Given as goal
 
 abbrev pub invariant-loop-k : goal.invariant-loop-k
 invariant-loop-k l = record {

@@ -5,8 +5,9 @@ use Rattle.std.proofs.Math.ListN.{length-set}
 use Rattle.std.proofs.lemmas.Int.{to_z-of_z}
 use Rattle.std.proofs.lemmas.Bool.Decides.{nat_tests}
 use Rattle.plain_certificates.specs.Tables.{at}
-use Rattle.net_simplex.proofs.Filled.{set_more, set_other}
-use Rattle.net_simplex.proofs.plan.weights_of.Goals as goal
+use Rattle.task_bounds.proofs.Filled.{set_more}
+use Rattle.task_bounds.proofs.Filled.{set_other}
+use Rattle.net_simplex.proofs.weights.weights_of.Goals as goal
 
 pub loop-k-preserved : goal.loop-k-preserved
 loop-k-preserved c =
