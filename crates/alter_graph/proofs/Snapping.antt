@@ -328,9 +328,11 @@ module _ (s : State) (d : ChainsSeen) (name : SnapKeys) (node arc : Watched) (at
     graph = refl;
     node_seat = h.nodes.seat;
     node_key = h.nodes.name;
+    node_new = h.nodes.is_new;
     nodes = λ i. record { seats = h.nodes.last i; left = h.nodes_left i };
     arc_seat = h.arcs.seat;
     arc_key = h.arcs.name;
+    arc_new = h.arcs.is_new;
     arcs = λ i. record { seats = h.arcs.last i; left = h.arcs_left i };
     names = h.names;
     others = all_more (λ k was. stays_as_is (present_of s.graph) s.chains d k (beside k was))

@@ -16,7 +16,7 @@ use Rattle.plain_digraph.specs.Facts.{fact_id}
 use Rattle.plain_digraph.specs.Digraph.{Digraph}
 use Rattle.plain_digraph.specs.Items.{fact_of, facts}
 use Rattle.plain_digraph.specs.PlainSteps.{PlainStep, PlaceBack, EraseArc, EraseNode, after_steps}
-use Rattle.plain_digraph.specs.Copies.{copy_of, ids_in, added, is_placed_as, is_moved, moved}
+use Rattle.plain_digraph.specs.Copies.{Copy, copy_of, ids_in, added, is_placed_as, is_moved, moved}
 use Rattle.plain_digraph.specs.Alterations.{places_back, arcs_out, nodes_out, restoring, all_steps}
 use Rattle.plain_digraph.specs.Alterations.{refusable_steps}
 use Rattle.plain_digraph.specs.RestoreLaws.{after_part}
@@ -176,50 +176,57 @@ told_has g sort id valid =
       | None ↦ λ e. sym (lacks-not_has fact_id id (facts g sort) (none_lacks g sort valid id e))
     ] refl
 
-module _ (making g : Digraph) (valid_making : IsValid making) (valid : IsValid g)
-    (sort : ItemSort) where
+module _ (g : Digraph) (valid : IsValid g) (sort : ItemSort) where
   abbrev live : List Fact
   live = facts g sort
 
-  -- an item is outside the copy
-  abbrev is_out : ℕ → Bool
-  is_out id = not (has (ids_in (copy_of making) sort) id)
+  module _ (copy : Copy) where
+    -- an item is outside the copy
+    abbrev is_out : ℕ → Bool
+    is_out id = not (has (ids_in copy sort) id)
 
-  outside : (a : List ℕ) (k : List Fact) → saved a k live ≡ facts making sort → (id : ℕ)
-      → is_out id ≡ not (has_id fact_id id (saved a k live))
-  outside a k same id = ap not (in_copy making sort id valid_making
-      ∙ told_has making sort id valid_making ∙ ap (has_id fact_id id) (sym same))
+    -- what lists the items that a half saves is without those that it has as added
+    abbrev pub ListsSaved : Held → Type 0
+    ListsSaved h = (id : ℕ) → has (ids_in copy sort) id ≡ has_id fact_id id (saved_of h live)
 
-  pub added_tied : (h : Held) → IsHalf h → HeldFits h live → IsHeldSound h
-      → saved_of h live ≡ facts making sort → added_of h ≡ added (copy_of making) g sort
-  added_tied Nothing half fits sound same = absurd half
-  added_tied (Values t es) half fits sound same = absurd half
-  added_tied (Degree out ends) half fits sound same = absurd half
-  added_tied (Half a others k v) half fits sound same =
-      same_items number_id 0 a (filter is_out (map fact_id live)) sound.0
-      (filter_rises number_id is_out 0 (map fact_id live)
-      (ids_rise 0 live (facts_live g sort valid).rising))
-      (all_in (Contains (filter is_out (map fact_id live))) a (λ id c.
-      passes is_out (map fact_id live) id
-      (ids_in_live id live (all_at (λ i. IsTrue (has_id fact_id i live)) id a fits.among c))
-      (outside a k same id
-      ∙ ap not (added_out a k id live (contains-has number_id id a c)))))
-      (all_in (Contains a) (filter is_out (map fact_id live)) (λ id c.
-      let r = passed is_out (map fact_id live) id c in
-      numbers_in id a (is_added id (live_in_ids id live r.0) r.1)))
-    where
-      is_added : (id : ℕ) → IsTrue (has_id fact_id id live) → is_out id ≡ true
-          → IsTrue (has_id number_id id a)
-      is_added id lives out =
-          elim (has_id number_id id a) as (λ b. has_id number_id id a ≡ b → b ≡ true) [
-            | true ↦ λ e. refl
-            | false ↦ λ e.
-                let t : not true ≡ true = sym (ap not (other_in a k id live e lives))
-                ∙ sym (outside a k same id) ∙ out in
-                cc
-          ] refl
-  added_tied (Kept role all items) half fits sound same = absurd half
-  added_tied (Ties ties) half fits sound same = absurd half
+    pub added_outside : (h : Held) → IsHalf h → HeldFits h live → IsHeldSound h → ListsSaved h
+        → added_of h ≡ added copy g sort
+    added_outside Nothing half fits sound lists = absurd half
+    added_outside (Values t es) half fits sound lists = absurd half
+    added_outside (Degree out ends) half fits sound lists = absurd half
+    added_outside (Half a others k v) half fits sound lists =
+        same_items number_id 0 a (filter is_out (map fact_id live)) sound.0
+        (filter_rises number_id is_out 0 (map fact_id live)
+        (ids_rise 0 live (facts_live g sort valid).rising))
+        (all_in (Contains (filter is_out (map fact_id live))) a (λ id c.
+        passes is_out (map fact_id live) id
+        (ids_in_live id live (all_at (λ i. IsTrue (has_id fact_id i live)) id a fits.among c))
+        (ap not (lists id ∙ added_out a k id live (contains-has number_id id a c)))))
+        (all_in (Contains a) (filter is_out (map fact_id live)) (λ id c.
+        let r = passed is_out (map fact_id live) id c in
+        numbers_in id a (is_added id (live_in_ids id live r.0) r.1)))
+      where
+        is_added : (id : ℕ) → IsTrue (has_id fact_id id live) → is_out id ≡ true
+            → IsTrue (has_id number_id id a)
+        is_added id lives out =
+            elim (has_id number_id id a) as (λ b. has_id number_id id a ≡ b → b ≡ true) [
+              | true ↦ λ e. refl
+              | false ↦ λ e.
+                  let t : not true ≡ true = sym (ap not (other_in a k id live e lives))
+                  ∙ sym (ap not (lists id)) ∙ out in
+                  cc
+            ] refl
+    added_outside (Kept role all items) half fits sound lists = absurd half
+    added_outside (Ties ties) half fits sound lists = absurd half
+
+module _ (making g : Digraph) (valid_making : IsValid making) (valid : IsValid g)
+    (sort : ItemSort) where
+  pub added_tied : (h : Held) → IsHalf h → HeldFits h (facts g sort) → IsHeldSound h
+      → saved_of h (facts g sort) ≡ facts making sort → added_of h ≡ added (copy_of making) g sort
+  added_tied h half fits sound same =
+      added_outside g valid sort (copy_of making) h half fits sound
+      (λ id. in_copy making sort id valid_making ∙ told_has making sort id valid_making
+      ∙ ap (has_id fact_id id) (sym same))
 
 -- ---- the moved arcs
 

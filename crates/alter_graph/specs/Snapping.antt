@@ -1,10 +1,10 @@
 -- Snapshots are made and forgotten.
-use Rattle.std.specs.Prelude.{◌≡◌, true, List, [], ◌∷◌, ◌++◌}
+use Rattle.std.specs.Prelude.{◌≡◌, true, List, [], ◌∷◌, ◌++◌, None}
 use Rattle.base_items.specs.declared.items.Fact.{Fact}
 use Rattle.base_items.specs.declared.items.ItemSort.TheVariants as sorts
 use Rattle.observe_core.specs.Seen.{Watched}
 use Rattle.observe_core.specs.Told.{built}
-use Rattle.notify_chain.specs.Seats.{SeatSeen, Attached}
+use Rattle.notify_chain.specs.Seats.{SeatSeen, Attached, find_seat}
 use Rattle.alter_graph.specs.declared.snaps.SnapKeys.{SnapKeys}
 use Rattle.alter_graph.specs.Chains.{ChainsSeen}
 use Rattle.alter_graph.specs.Present.{present_of}
@@ -21,15 +21,18 @@ pub record Seated (name : SnapKeys) (node arc : Watched) (all_nodes all_arcs : L
   pub arcs_left : new.arcs.left ≡ old.arcs.left
   pub names : new.snaps ≡ old.snaps ++ name ∷ []
 
--- a valid snapshot of what is there, by a new last seat in either chain; all else is as before
+-- a valid snapshot of what is there, by a new last seat in either chain, under a key that no seat
+-- of it has; all else is as before
 pub record Makes (name : SnapKeys) (old new : State) : Type 0 where
   pub graph : new.graph ≡ old.graph
   pub node_seat : SeatSeen
   pub node_key : node_seat.key ≡ name.nodes.0
+  pub node_new : find_seat name.nodes.0 old.chains.nodes.seats ≡ None
   pub nodes : new.chains.nodes
       ≡ with_seats (old.chains.nodes.seats ++ node_seat ∷ []) old.chains.nodes
   pub arc_seat : SeatSeen
   pub arc_key : arc_seat.key ≡ name.arcs.0
+  pub arc_new : find_seat name.arcs.0 old.chains.arcs.seats ≡ None
   pub arcs : new.chains.arcs ≡ with_seats (old.chains.arcs.seats ++ arc_seat ∷ []) old.chains.arcs
   pub names : new.chains.snaps ≡ old.chains.snaps ++ name ∷ []
   pub others : SnapsStay old.chains.snaps old new

@@ -24,6 +24,7 @@ mod splits;
 mod steps;
 
 pub use faults::AlterFault;
+pub use gathering::all_facts;
 pub use graph::Alterable;
 pub use snaps::SnapKeys;
 pub use snapshots::HoldsHalf;

@@ -41,6 +41,8 @@ use Rattle.desk_world.proofs.Kept.{stays_in_step, plain_follows}
 use Rattle.desk_world.proofs.Looks.{seen_same, seen_heard}
 use Rattle.desk_world.proofs.Seated.{labels_sit}
 use Rattle.desk_world.proofs.Unchanged.{same_in}
+use Rattle.alter_graph.specs.State.{SnapsFollow}
+use Rattle.std.proofs.Common.{◌∷◌}
 
 -- ---- what became of the labels
 
@@ -67,7 +69,8 @@ module _ {O : Type 0} (watch : O → Watched) (w : World O) (a : AlterOf O) (ste
     (can : CanTake step w.graph.graph.graph)
     (tells : notice_of step w.graph.graph.graph ≡ Tells (Add f))
     (went : IsSame (took step (state_of watch w.graph)) (state_of watch a))
-    (then : graph.IsInStep (state_of watch a)) where
+    (then : graph.IsInStep (state_of watch a))
+    (follows : SnapsFollow (step ∷ []) (state_of watch w.graph) (state_of watch a)) where
   abbrev more : World O
   more = record w { graph = a }
 
@@ -120,8 +123,8 @@ module _ {O : Type 0} (watch : O → Watched) (w : World O) (a : AlterOf O) (ste
 
   joins : Joins watch step f.id w more
   joins = record {
-    in_step = stays_in_step watch step w a may in_step can went then;
-    plain = plain_follows watch step w a may in_step can went then;
+    in_step = stays_in_step watch step w a may in_step can went then follows;
+    plain = plain_follows watch step w a may in_step can went then follows;
     labels = labels_more;
     room = room_stays;
   }
@@ -135,14 +138,14 @@ module _ {O : Type 0} (watch : O → Watched) (w : World O) (a : AlterOf O)
       → Joins watch AddNode (new_node g) w (record w { graph = a })
   node_joins happens =
       joins watch w a AddNode (node_fact (new_node g) g.stamps) in_step refl tt refl
-      happens.goes.took happens.goes.in_step
+      happens.goes.took happens.goes.in_step happens.goes.snaps
 
   pub arc_joins : (from to : ℕ) → IsLive g sorts.Node from → IsLive g sorts.Node to
       → Happens (single (AddArc from to)) (state_of watch w.graph) (state_of watch a)
       → Joins watch (AddArc from to) (new_arc g) w (record w { graph = a })
   arc_joins from to source target happens =
       joins watch w a (AddArc from to) (arc_fact (new_arc g) (from, to) g.stamps g.stamps) in_step
-      refl (source, target) refl happens.goes.took happens.goes.in_step
+      refl (source, target) refl happens.goes.took happens.goes.in_step happens.goes.snaps
 
 -- ---- the new item may be given a label
 

@@ -1,5 +1,5 @@
 -- A world whose digraph took all steps of an alteration, at some of which guards may have left.
-use Rattle.std.proofs.Common.{◌≡◌, ℕ, ◌≤◌, Bool, true, false, cond, List, [], ◌∷◌, Option}
+use Rattle.std.proofs.Common.{◌≡◌, ℕ, ◌≤◌, Bool, true, false, cond, List, [], ◌∷◌, Option, map}
 use Rattle.std.proofs.Common.{Some, None, refl, sym, ◌∙◌, subst, arith}
 use Rattle.std.specs.Prelude.{fold, ◌==◌, ◌<◌, All, option_map}
 use Rattle.std.specs.List.{cons_option}
@@ -30,8 +30,8 @@ use Rattle.desk_world.specs.declared.world.World.{World}
 use Rattle.desk_world.specs.Claims.{claims_of}
 use Rattle.desk_world.specs.Derived.{AreDerived}
 use Rattle.desk_world.specs.Entries.{room_for_labels}
-use Rattle.desk_world.specs.InStep.{AreInStep}
-use Rattle.desk_world.specs.Leaving.{AreAltered}
+use Rattle.desk_world.specs.InStep.{AreInStep, AreSeated}
+use Rattle.desk_world.specs.Leaving.{AreAltered, still_claimed, with_none_left}
 use Rattle.desk_world.specs.Looks.{Look, look_in, looked, room_at}
 use Rattle.desk_world.specs.Plain.{plain_of, guard_seen, guard_by, word_of, tables_of, world_seen}
 use Rattle.desk_world.specs.Plain.{kinds_of}
@@ -39,9 +39,16 @@ use Rattle.desk_world.proofs.Carried.{Carries, AreCharged, stood_in_step, all_ca
 use Rattle.desk_world.proofs.Carried.{all_roomy}
 use Rattle.desk_world.proofs.Guarded.{IsCharged}
 use Rattle.desk_world.proofs.Remaining.{still_by}
+use Rattle.desk_world.proofs.SnapTables.{snaps_altered}
 use Rattle.desk_world.proofs.StillClaimed.{all_kept, each_still, remain_all, remain_alike}
 use Rattle.desk_world.proofs.StillClaimed.{look_alike, still_seated}
 use Rattle.desk_world.proofs.Takes.{TakesAll}
+use Rattle.desk_world.proofs.SnapsFollow.{snapshots_on, snapshots_follow, halves_sit, halves_still}
+use Rattle.desk_world.proofs.Seated.{SitsIn, last_claims}
+use Rattle.alter_graph.specs.Snaps.{Follows}
+use Rattle.alter_graph.specs.Present.{present_of}
+use Rattle.desk_world.specs.Plain.{snapshot_seen}
+use Rattle.desk_world.proofs.Remaining.{RemainIn, StillSits}
 
 -- ---- the fuses of a valid world have something left
 
@@ -132,6 +139,67 @@ module _ {O : Type 0} (watch : O → Watched) (w : World O) (in_step : AreInStep
   charged_valid valid =
       rows_charged (look_in s.chains) (plain_of watch w) w.guards.rows valid.guards_ok
 
+-- ---- a state after all steps
+
+module _ {O : Type 0} (watch : O → Watched) (w : World O) (t : State) (steps : List PlainStep)
+    (in_step : AreInStep watch w) (goes : Goes steps (state_of watch w.graph) t)
+    (takes : TakesAll steps w.graph.graph.graph) where
+  abbrev last : State
+  last = altered steps (state_of watch w.graph)
+
+  carried : Carries w last
+  carried = all_carry w steps (state_of watch w.graph) (carries_in_step watch w in_step) takes
+
+  looks_on : look_in t.chains ≡ look_in last.chains
+  looks_on = look_alike (claims_of w) last.chains t.chains goes.took.chains
+
+  remain_on : RemainIn (claims_of w) t.chains
+  remain_on = remain_alike (claims_of w) last.chains t.chains goes.took.chains carried.remain
+
+  pub seated_on : AreSeated (still_claimed t.chains (claims_of w)) (with_none_left t.chains)
+  seated_on = still_seated (claims_of w) t.chains remain_on
+
+  pub snaps_on : t.chains.snaps ≡ map (λ e. e.value) w.snapshots.rows
+  snaps_on =
+      goes.took.chains.snaps ∙ snaps_altered steps (state_of watch w.graph) ∙ in_step.snaps
+
+  pub derived_on : AreDerived (look_in t.chains) w.nodes w.arcs w.attributes.rows
+  derived_on =
+      subst (λ look. AreDerived look w.nodes w.arcs w.attributes.rows) (sym looks_on)
+      carried.derived
+
+  -- where no key of a guard that left is to be taken, none has left
+  pub still_on : ((sort : ItemSort) → (chain_in sort t.chains).left ≡ [])
+      → AllOf (λ x. still_by (look_in t.chains) x ≡ true) (claims_of w)
+  still_on none =
+      subst (λ look. AllOf (λ x. still_by look x ≡ true) (claims_of w)) (sym looks_on)
+      (carried.all_there
+      (λ sort. sym (left_alike last.chains t.chains sort goes.took.chains) ∙ none sort))
+
+  -- a fuse of a valid world has something left
+  pub follows_on : IsWorld (plain_of watch w)
+      → world_seen t.graph (look_in t.chains) (kinds_of watch w.pool.items) w
+      ≡ fold follow (plain_of watch w) steps
+  follows_on valid =
+      let g : t.graph ≡ last.graph = goes.took.graph in
+      let s = state_of watch w.graph in
+      let pool = kinds_of watch w.pool.items in
+      let table = looked (snapshot_seen s.graph (look_in s.chains)) w.snapshots.rows in
+      let shown = snapshots_follow steps s.graph t.graph s.chains t.chains w.snapshots.rows
+      (halves_sit s.chains w.snapshots.rows (last_claims (SitsIn s.chains) w in_step.seated.there))
+      (halves_still (look_in t.chains) w.snapshots.rows
+      (last_claims (StillSits (look_in t.chains)) w remain_on.there))
+      (subst (AllOf (Follows steps (present_of s.graph) s.chains (present_of t.graph) t.chains))
+      in_step.snaps goes.snaps.each) in
+      (λ i. record (world_seen t.graph (look_in t.chains) pool w) { snapshots = shown i })
+      ∙ (λ i. record (world_seen (g i) (looks_on i) pool w) {
+        snapshots = snapshots_on steps s.graph table;
+      })
+      ∙ all_follow w steps s pool table
+      (carries_in_step watch w in_step) (charged_valid watch w in_step valid) takes
+
+-- ---- a world
+
 module _ {O : Type 0} (watch : O → Watched) (w : World O) (a : AlterOf O) (steps : List PlainStep)
     (in_step : AreInStep watch w)
     (goes : Goes steps (state_of watch w.graph) (state_of watch a)) where
@@ -144,45 +212,29 @@ module _ {O : Type 0} (watch : O → Watched) (w : World O) (a : AlterOf O) (ste
       subst IsValid (graph_on steps (state_of watch w.graph) t goes.took) goes.in_step.valid
 
   module _ (takes : TakesAll steps w.graph.graph.graph) where
-    abbrev last : State
-    last = altered steps (state_of watch w.graph)
-
-    carried : Carries w last
-    carried = all_carry w steps (state_of watch w.graph) (carries_in_step watch w in_step) takes
-
     pub altered_in_step : AreAltered watch (record w { graph = a })
     altered_in_step = record {
       graph = goes.in_step;
-      seated = still_seated (claims_of w) t.chains
-          (remain_alike (claims_of w) last.chains t.chains goes.took.chains carried.remain);
+      seated = seated_on watch w t steps in_step goes takes;
       boxes = in_step.boxes;
       bare = record {
-        snapshots = in_step.bare.snapshots;
         views = in_step.bare.views;
       };
-      derived = subst (λ look. AreDerived look w.nodes w.arcs w.attributes.rows)
-          (sym (look_alike (claims_of w) last.chains t.chains goes.took.chains)) carried.derived;
+      snaps = snaps_on watch w t steps in_step goes takes;
+      derived = derived_on watch w t steps in_step goes takes;
       all_there = λ none. all_kept (still_by (look_in t.chains)) (claims_of w)
-          (subst (λ look. AllOf (λ x. still_by look x ≡ true) (claims_of w))
-          (sym (look_alike (claims_of w) last.chains t.chains goes.took.chains))
-          (carried.all_there
-          (λ sort. sym (left_alike last.chains t.chains sort goes.took.chains) ∙ none sort)));
+          (still_on watch w t steps in_step goes takes none);
     }
 
-    -- a fuse of a valid world has something left
     pub altered_follows : IsWorld (plain_of watch w)
         → plain_of watch (record w { graph = a }) ≡ fold follow (plain_of watch w) steps
-    altered_follows valid =
-        let g : a.graph.graph ≡ last.graph = goes.took.graph in
-        let looks = look_alike (claims_of w) last.chains t.chains goes.took.chains in
-        (λ i. world_seen (g i) (looks i) (kinds_of watch w.pool.items) w)
-        ∙ all_follow w steps (state_of watch w.graph) (kinds_of watch w.pool.items) in_step.bare
-        (carries_in_step watch w in_step) (charged_valid watch w in_step valid) takes
+    altered_follows valid = follows_on watch w t steps in_step goes takes valid
 
     pub altered_room : (sort : ItemSort) → room_for_labels watch w sort
         ≤ room_for_labels watch (record w { graph = a }) sort
     altered_room sort =
         let key = (tables_of w sort).labels.0 in
+        let last : State = altered steps (state_of watch w.graph) in
         let same = all_roomy w steps (state_of watch w.graph) (carries_in_step watch w in_step)
         takes sort in
         subst (λ room. room ≤ room_for_labels watch (record w { graph = a }) sort) same

@@ -1,5 +1,6 @@
 -- A world with the seats of labels and ties alone.
-use Rattle.std.proofs.Common.{◌≡◌, ℕ, suc, List, [], ◌∷◌, ◌++◌, map, Option, Some, None, refl, sym, ap}
+use Rattle.std.proofs.Common.{◌≡◌, ℕ, suc, List, [], ◌∷◌, ◌++◌, map, Option, Some, None, refl, sym}
+use Rattle.std.proofs.Common.{ap}
 use Rattle.std.proofs.Common.{◌∙◌, subst, true, false}
 use Rattle.std.specs.Prelude.{nat_le, option_map, cond}
 use Rattle.std.specs.List.{filter_map, cons_option, flat_map}
@@ -40,6 +41,7 @@ use Rattle.desk_world.specs.Plain.{ties_seen, map_seen, guard_seen, snapshot_see
 use Rattle.desk_world.proofs.Founded.{AreFounded, founded, four_claims, four_seated}
 use Rattle.desk_world.proofs.Founded.{node_labels_seen, arc_labels_seen, node_ties_seen}
 use Rattle.desk_world.proofs.Founded.{arc_ties_seen}
+use Rattle.desk_world.proofs.SnapTables.{snaps_attached}
 
 -- ---- no item has a label
 
@@ -196,9 +198,13 @@ module _ {O : Type 0} (watch : O → Watched) (w : World O) (s0 s2 : State)
     seated = seated;
     boxes = boxes;
     bare = record {
-      snapshots = no_snapshots;
       views = no_views;
     };
+    snaps = snaps_attached Arc d arcs.ties arcs.mid last arcs.second
+        ∙ snaps_attached Arc c arcs.labels s2 arcs.mid arcs.first
+        ∙ snaps_attached Node b nodes.ties nodes.mid s2 nodes.second
+        ∙ snaps_attached Node a nodes.labels s0 nodes.mid nodes.first
+        ∙ ap (λ x. x.snaps) none ∙ sym (ap (map (λ e. e.value)) no_snapshots);
     derived = record {
       node_indexes = subst (AreIndexed (look_of watch w Node)) (sym nodes.no_maps) tt;
       arc_indexes = subst (AreIndexed (look_of watch w Arc)) (sym arcs.no_maps) tt;

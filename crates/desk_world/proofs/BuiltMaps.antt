@@ -31,6 +31,7 @@ use Rattle.desk_world.specs.Columns.{column}
 use Rattle.desk_world.specs.Plain.{held_by}
 use Rattle.desk_world.specs.Values.{kind_for}
 use Rattle.desk_world.proofs.Blank.{has_place}
+use Rattle.desk_world.proofs.ColumnValues.{at_values}
 use Rattle.desk_world.proofs.Columns.{get_column, value_at, same_column}
 
 -- ---- entries with one value
@@ -72,30 +73,6 @@ module _ {X : Type 0} (x : X) where
             ∙ sym (ap (λ b. cond (cond b true (has_id entry_id q es)) (Some x) None)
             (ne_eqb e.id q (λ is. other (sym is))))
       ]
-
-  -- what a column with one value for all has at an item
-  at_all : (items : List ℕ) (q : ℕ)
-      → fin.get (column_of items (λ id. x)) q ≡ cond (has items q) (Some x) None
-  at_all items q =
-      fin.get-from_entries nat_cmp_total (map (λ id. (id, x)) items) q ∙ found items
-    where
-      found : (list : List ℕ) → fin.find nat_cmp q (map (λ id. (id, x)) list)
-          ≡ cond (has list q) (Some x) None
-      found [] = refl
-      found (id ∷ list) =
-          let rest = found list in
-          elim (cases_eq q id) [
-            | inl same ↦
-                ap (λ t. cond t (Some x) (fin.find nat_cmp q (map (λ id. (id, x)) list)))
-                (ties_same q id same)
-                ∙ sym (ap (λ b. cond (b || has list q) (Some x) None) (eq-eqb id q (sym same)))
-            | inr other ↦
-                ap (λ t. cond t (Some x) (fin.find nat_cmp q (map (λ id. (id, x)) list)))
-                (ties_other q id other)
-                ∙ rest
-                ∙ sym (ap (λ b. cond (b || has list q) (Some x) None)
-                (ne_eqb id q (λ is. other (sym is))))
-          ]
 
 -- ---- what a build gives
 
@@ -144,7 +121,7 @@ built_column t w sort valid =
     (column_of (live w sort) (λ id. default_of t))
     (λ q. built_value t (facts w.graph sort) q
     ∙ ap (λ b. cond b (Some (default_of t)) None) (live_told w sort q valid)
-    ∙ sym (at_all (default_of t) (live w sort) q))
+    ∙ sym (at_values (λ id. default_of t) (live w sort) q))
 
 -- the type of the values that a seat holds
 abbrev pub values_type : MapType → held.MapType

@@ -32,7 +32,6 @@ use Rattle.desk_world.specs.Claims as claims
 use Rattle.desk_world.specs.Claims.{Claim, Role, Plays, Sits, claims_of, guard_claim, map_claim}
 use Rattle.desk_world.specs.Claims.{snap_claims, role_of, has_map_kind}
 use Rattle.desk_world.specs.Derived.{AreDerived}
-use Rattle.desk_world.specs.InStep.{IsBare}
 use Rattle.desk_world.specs.Looks.{Look, look_in, seen_at, room_at}
 use Rattle.desk_world.specs.Plain.{seat_sort, tables_of, world_seen}
 use Rattle.desk_world.proofs.Following.{AreStood, look_hears, world_follows}
@@ -46,6 +45,10 @@ use Rattle.desk_world.proofs.Seated.{all_left, all_right, all_so}
 use Rattle.desk_world.proofs.StillDerived.{derived_then}
 use Rattle.desk_world.proofs.Stood.{Stood, stood_of_fits}
 use Rattle.desk_world.proofs.Takes.{TakesAll}
+use Rattle.plain_digraph.specs.Copies.{Copy}
+use Rattle.plain_world.specs.Tables.{under}
+use Rattle.plain_world.specs.Following.{snapshot_after}
+use Rattle.desk_world.proofs.SnapsFollow.{snapshots_on}
 
 -- ---- what each observer stands for
 
@@ -259,18 +262,20 @@ module _ {O : Type 0} (w : World O) where
           rows_then es all.1,
         )
 
-    -- the world that is seen follows the step
-    pub step_follows : (pool : List GuardWord) → IsBare w
+    -- the world that is seen follows the step, whatever table of snapshots stands in it
+    pub step_follows : (pool : List GuardWord) (table : List (Named (Option Copy)))
         → AllOf (λ e. MayBurn (look_in s.chains) n e.value) w.guards.rows
-        → world_seen (after_step s.graph step) (look_in d) pool w
-        ≡ follow (world_seen s.graph (look_in s.chains) pool w) step
-    step_follows pool bare burn =
+        → record (world_seen (after_step s.graph step) (look_in d) pool w) {
+          snapshots = map (λ e. under e.name (snapshot_after s.graph step e.value)) table;
+        }
+        ≡ follow (record (world_seen s.graph (look_in s.chains) pool w) { snapshots = table }) step
+    step_follows pool table burn =
         let look = look_in s.chains in
         let there = carries.remain.there in
         let guards = all_right (StillSits look) arc_claims (guard_claims ++ snapshot_claims)
         rows_there in
         world_follows step s carries.valid can then_valid carries.stood
-        carries.remain.keys_differ w pool bare (there.0 refl) (there.1.1.0 refl) ties_sit
+        carries.remain.keys_differ w pool table (there.0 refl) (there.1.1.0 refl) ties_sit
         node_maps_sit arc_maps_sit
         (guards_still look n w.guards.rows
         (all_left (StillSits look) guard_claims snapshot_claims guards) burn)
@@ -318,16 +323,21 @@ module _ {O : Type 0} (w : World O) where
       (λ was is. tt, burn_charged (Tells change) look es all.1)
   burn_charged (Loses loss) look (e ∷ es) all = (all.0, burn_charged (Loses loss) look es all.1)
 
-  pub all_follow : (steps : List PlainStep) (s : State) (pool : List GuardWord) → IsBare w
-      → Carries s → AreCharged s → TakesAll steps s.graph
-      → world_seen (altered steps s).graph (look_in (altered steps s).chains) pool w
-      ≡ fold follow (world_seen s.graph (look_in s.chains) pool w) steps
-  all_follow [] s pool bare carries charged takes = refl
-  all_follow (step ∷ steps) s pool bare carries charged takes =
-      all_follow steps (took step s) pool bare (carries_on step s carries takes.0 takes.1.0)
+  pub all_follow : (steps : List PlainStep) (s : State) (pool : List GuardWord)
+      (table : List (Named (Option Copy))) → Carries s → AreCharged s → TakesAll steps s.graph
+      → record (world_seen (altered steps s).graph (look_in (altered steps s).chains) pool w) {
+        snapshots = snapshots_on steps s.graph table;
+      }
+      ≡ fold follow (record (world_seen s.graph (look_in s.chains) pool w) { snapshots = table })
+      steps
+  all_follow [] s pool table carries charged takes = refl
+  all_follow (step ∷ steps) s pool table carries charged takes =
+      all_follow steps (took step s) pool
+      (map (λ e. under e.name (snapshot_after s.graph step e.value)) table)
+      (carries_on step s carries takes.0 takes.1.0)
       (charged_then step s carries takes.0 takes.1.0 charged) takes.1.1
       ∙ ap (λ (x : plain.World). fold follow x steps)
-      (step_follows step s carries takes.0 takes.1.0 pool bare
+      (step_follows step s carries takes.0 takes.1.0 pool table
       (burn_charged (notice_of step s.graph) (look_in s.chains) w.guards.rows charged))
 
   -- the labels of the sort keep their room

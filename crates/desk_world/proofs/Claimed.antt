@@ -83,7 +83,7 @@ differ_more (y ∷ front) x back differ none =
       differ_more front x back differ.1 parts.1,
     )
 
-differ_less : (front : List Claim) (x : Claim) (back : List Claim)
+pub differ_less : (front : List Claim) (x : Claim) (back : List Claim)
     → ClaimsDiffer (front ++ x ∷ back)
     → ClaimsDiffer (front ++ back) × (is_claimed (front ++ back) x.sort x.key ≡ false)
 differ_less [] x back differ = (differ.1, differ.0)
@@ -108,7 +108,7 @@ all_more : (P : Claim → Type 0) (front : List Claim) (x : Claim) (back : List 
 all_more P [] x back p all = (p, all)
 all_more P (y ∷ front) x back p all = (all.0, all_more P front x back p all.1)
 
-all_less : (P : Claim → Type 0) (front : List Claim) (x : Claim) (back : List Claim)
+pub all_less : (P : Claim → Type 0) (front : List Claim) (x : Claim) (back : List Claim)
     → AllOf P (front ++ x ∷ back) → AllOf P (front ++ back)
 all_less P [] x back all = all.1
 all_less P (y ∷ front) x back all = (all.0, all_less P front x back all.1)
@@ -372,11 +372,7 @@ module _ (sort : ItemSort) (key : ℕ) (role : Role) (front back : List Claim) (
 
 -- ---- a seat that went
 
-module _ (sort : ItemSort) (key : ℕ) (role : Role) (front back : List Claim) (c : ChainsSeen)
-    (seated : AreSeated (front ++ claim sort key role ∷ back) c) where
-  abbrev d : ChainsSeen
-  d = detached sort key c
-
+module _ (key : ℕ) (c : ChainsSeen) where
   here : (s : ItemSort)
       → seats_in s (detached s key c) ≡ without_item seat_key key (seats_in s c)
   here sorts.Node = refl
@@ -389,6 +385,24 @@ module _ (sort : ItemSort) (key : ℕ) (role : Role) (front back : List Claim) (
   there sorts.Arc sorts.Node apart = refl
   there sorts.Arc sorts.Arc apart = absurd (apart refl)
 
+  -- the same is seen elsewhere
+  pub agrees : (sort : ItemSort) (x : Claim) → IsElsewhere sort key x
+      → Agrees (look_in c) (look_in (detached sort key c)) x
+  agrees sort x other = elim (same_sort sort x.sort) [
+    | inl same ↦
+        let differ : x.key ≡ key → ⊥ = λ is.
+        true≢false (sym ((λ i. is_sort (sym same i) sort && x.key == key)
+        ∙ (λ i. sort_itself sort i && eq-eqb x.key key is i)) ∙ other) in
+        subst (λ s. look_in (detached sort key c) s x.key ≡ look_in c s x.key) same
+        (ap (seen_at x.key) (here sort) ∙ seen_without key x.key (seats_in sort c) differ)
+    | inr differ ↦ ap (seen_at x.key) (there sort x.sort differ)
+  ]
+
+module _ (sort : ItemSort) (key : ℕ) (role : Role) (front back : List Claim) (c : ChainsSeen)
+    (seated : AreSeated (front ++ claim sort key role ∷ back) c) where
+  abbrev d : ChainsSeen
+  d = detached sort key c
+
   abbrev less : List Claim
   less = front ++ back
 
@@ -398,20 +412,10 @@ module _ (sort : ItemSort) (key : ℕ) (role : Role) (front back : List Claim) (
   apart : AllOf (IsElsewhere sort key) less
   apart = apart_all front gone back seated.claims_differ
 
-  agrees : (x : Claim) → IsElsewhere sort key x → Agrees (look_in c) (look_in d) x
-  agrees x other = elim (same_sort sort x.sort) [
-    | inl same ↦
-        let differ : x.key ≡ key → ⊥ = λ is.
-        true≢false (sym ((λ i. is_sort (sym same i) sort && x.key == key)
-        ∙ (λ i. sort_itself sort i && eq-eqb x.key key is i)) ∙ other) in
-        subst (λ s. look_in d s x.key ≡ look_in c s x.key) same
-        (ap (seen_at x.key) (here sort) ∙ seen_without key x.key (seats_in sort c) differ)
-    | inr differ ↦ ap (seen_at x.key) (there sort x.sort differ)
-  ]
-
   -- the same is seen of all other claims
   pub agree_less : AllOf (Agrees (look_in c) (look_in d)) less
-  agree_less = all_so (IsElsewhere sort key) (Agrees (look_in c) (look_in d)) agrees less apart
+  agree_less =
+      all_so (IsElsewhere sort key) (Agrees (look_in c) (look_in d)) (agrees key c sort) less apart
 
   -- all others are claimed as before
   pub seats_less : AreSeated less d
@@ -431,10 +435,10 @@ module _ (sort : ItemSort) (key : ℕ) (role : Role) (front back : List Claim) (
       guards_now s = elim (same_sort sort s) [
         | inl same ↦
             subst (λ x. guards_seated x d ≡ guards_claimed x less) same
-            (ap guards_among (here sort) ∙ guards_gone key (seats_in sort c)
+            (ap guards_among (here key c sort) ∙ guards_gone key (seats_in sort c)
             ∙ ap (key_gone key) (seated.in_order sort) ∙ claim_gone front gone back apart)
         | inr other ↦
-            ap guards_among (there sort s other) ∙ seated.in_order s
+            ap guards_among (there key c sort s other) ∙ seated.in_order s
             ∙ claim_passed s front gone back
             (ap (λ b. b && not (has_map_kind role)) (no_sort sort s other))
       ]
@@ -450,7 +454,7 @@ module _ (sort : ItemSort) (key : ℕ) (role : Role) (front back : List Claim) (
         | inl same ↦
             subst (λ x. AllOf (λ k. is_claimed less x k ≡ true) (keys_in x d)) same
             (subst (λ list. AllOf (λ k. is_claimed less sort k ≡ true) (map seat_key list))
-            (sym (here sort))
+            (sym (here key c sort))
             (all_so
             (λ k. (is_claimed (front ++ gone ∷ back) sort k ≡ true) × (k ≡ key → ⊥))
             (λ k. is_claimed less sort k ≡ true)
@@ -461,7 +465,7 @@ module _ (sort : ItemSort) (key : ℕ) (role : Role) (front back : List Claim) (
             (seats_in sort c) (seated.no_other sort))))
         | inr apart ↦
             subst (λ list. AllOf (λ k. is_claimed less s k ≡ true) (map seat_key list))
-            (sym (there sort s apart))
+            (sym (there key c sort s apart))
             (all_so (λ k. is_claimed (front ++ gone ∷ back) s k ≡ true)
             (λ k. is_claimed less s k ≡ true)
             (λ k is. left s k (ap (λ b. b && key == k) (no_sort sort s apart)) is)
@@ -472,9 +476,9 @@ module _ (sort : ItemSort) (key : ℕ) (role : Role) (front back : List Claim) (
       differ s = elim (same_sort sort s) [
         | inl same ↦
             subst (λ x. Differ (keys_in x d)) same
-            (subst (λ list. Differ (map seat_key list)) (sym (here sort))
+            (subst (λ list. Differ (map seat_key list)) (sym (here key c sort))
             (differ_left key (seats_in sort c) (seated.keys_differ sort)))
         | inr apart ↦
-            subst (λ list. Differ (map seat_key list)) (sym (there sort s apart))
+            subst (λ list. Differ (map seat_key list)) (sym (there key c sort s apart))
             (seated.keys_differ s)
       ]

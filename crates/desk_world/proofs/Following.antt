@@ -44,10 +44,10 @@ use Rattle.desk_world.specs.Claims as claims
 use Rattle.desk_world.specs.Claims.{Role, Plays, Sits, has_map_kind, is_map, made_for, role_of}
 use Rattle.desk_world.specs.Columns.{labels_of}
 use Rattle.desk_world.specs.Derived.{ties_at}
-use Rattle.desk_world.specs.InStep.{Differ, keys_in, IsBare}
+use Rattle.desk_world.specs.InStep.{Differ, keys_in}
 use Rattle.desk_world.specs.Looks.{look_in, looked, seen_at}
 use Rattle.desk_world.specs.Plain.{held_by, map_seen, attached_seen, labels_seen, seat_sort}
-use Rattle.desk_world.specs.Plain.{guard_by, guard_seen, snapshot_seen, attribute_seen, world_seen}
+use Rattle.desk_world.specs.Plain.{guard_by, guard_seen, attribute_seen, world_seen}
 use Rattle.desk_world.specs.Plain.{ties_seen, tables_of}
 use Rattle.desk_world.proofs.Guarded.{CanBurn, becomes, guard_hears, guard_unheard}
 use Rattle.desk_world.proofs.Hearing.{hears_in, hears_same, hears_other, seats_hear, made_hear}
@@ -59,6 +59,7 @@ use Rattle.desk_world.proofs.Seated.{all_so}
 use Rattle.desk_world.proofs.Stood.{Stood}
 use Rattle.desk_world.proofs.TiesAfter.{ties_after, ties_noticed}
 use Rattle.desk_world.proofs.TiesAfter as tied
+use Rattle.plain_digraph.specs.Copies.{Copy}
 
 -- ---- sorts
 
@@ -450,29 +451,30 @@ module _ (step : PlainStep) (s : State) (valid : IsValid s.graph) (can : CanTake
       (guard_seen (look_in s.chains) e.value))
       (λ e burns. row_guarded e.value.sort e.value.key.0 burns) table burn)
 
-  -- the world that is seen after the step is the one that follows it
-  pub world_follows : {O : Type 0} (w : World O) (pool : List GuardWord) → IsBare w
+  -- the world that is seen after the step is the one that follows it, whatever table of snapshots
+  -- stands in it
+  pub world_follows : {O : Type 0} (w : World O) (pool : List GuardWord)
+      (table : List (Named (Option Copy)))
       → Sits claims.Labels (look_in s.chains sorts.Node w.nodes.labels.0)
       → Sits claims.Labels (look_in s.chains sorts.Arc w.arcs.labels.0)
       → ((sort : ItemSort) → Sits claims.Ties (ties_seen (look_in s.chains) w sort))
       → AllOf (λ e. SitsRow sorts.Node e.value) w.nodes.maps.rows
       → AllOf (λ e. SitsRow sorts.Arc e.value) w.arcs.maps.rows
       → AllOf (λ e. Burns e.value.sort e.value.key.0) w.guards.rows
-      → world_seen (after_step s.graph step) (look_in d) pool w
-      ≡ follow (world_seen s.graph (look_in s.chains) pool w) step
-  world_follows w pool bare node_labels arc_labels ties node_maps arc_maps burn =
+      → record (world_seen (after_step s.graph step) (look_in d) pool w) {
+        snapshots = map (λ e. under e.name (snapshot_after s.graph step e.value)) table;
+      }
+      ≡ follow (record (world_seen s.graph (look_in s.chains) pool w) { snapshots = table }) step
+  world_follows w pool table node_labels arc_labels ties node_maps arc_maps burn =
       let nodes = attached_follows sorts.Node w.nodes node_labels node_maps in
       let arcs = attached_follows sorts.Arc w.arcs arc_labels arc_maps in
       let guards = guards_follow w.guards.rows burn in
-      let snaps = subst (λ table. looked (snapshot_seen (after_step s.graph step) (look_in d)) table
-      ≡ map (λ e. under e.name (snapshot_after s.graph step e.value))
-      (looked (snapshot_seen s.graph (look_in s.chains)) table)) (sym bare.snapshots) refl in
       let attributes = attributes_follow w w.attributes.rows ties in
       λ i. record (world_seen s.graph (look_in s.chains) pool w) {
         graph = after_step s.graph step;
         nodes = nodes i;
         arcs = arcs i;
         guards = guards i;
-        snapshots = snaps i;
+        snapshots = map (λ e. under e.name (snapshot_after s.graph step e.value)) table;
         attributes = attributes i;
       }

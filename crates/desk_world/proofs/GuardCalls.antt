@@ -134,9 +134,9 @@ module _ {O : Type 0} (watch : O → Watched) where
         seated = still.seated;
         boxes = boxes_again;
         bare = record {
-          snapshots = still.bare.snapshots;
           views = still.bare.views;
         };
+        snaps = still.snaps;
         derived = still.derived;
       };
       stamps = same.graph;

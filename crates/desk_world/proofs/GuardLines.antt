@@ -102,11 +102,16 @@ looked_few {X} {Y} look (e ∷ es) = by (look e.value) (looked_few look es)
     by None rest = omega (arith, rest)
     by (Some y) rest = omega (arith, rest)
 
+pub looked_whole : {X Y Z : Type 0} (look : X → Option Y) (table : List (Named X))
+    (f : Named Y → Z) (lines : List Z) (place : ℕ)
+    → lines ≡ take place (map f (looked look table)) → length table ≤ place
+    → lines ≡ map f (looked look table)
+looked_whole look table f lines place were past =
+    let few = looked_few look table in
+    let counted = length-map (looked look table) f in
+    were ∙ take_all place (map f (looked look table)) (omega (arith, few, past, counted))
+
 pub lines_whole : {O X : Type 0} (watch : O → Watched) (w : World O) (f : Named plain.Guard → X)
     (lines : List X) (place : ℕ) → lines ≡ take place (map f (plain_of watch w).guards)
     → length w.guards.rows ≤ place → lines ≡ map f (plain_of watch w).guards
-lines_whole watch w f lines place were past =
-    let guards = (plain_of watch w).guards in
-    let few = looked_few (guard_seen (look_of watch w)) w.guards.rows in
-    let counted = length-map guards f in
-    were ∙ take_all place (map f guards) (omega (arith, few, past, counted))
+lines_whole watch w = looked_whole (guard_seen (look_of watch w)) w.guards.rows

@@ -32,9 +32,9 @@ module _ {O : Type 0} (watch : O → Watched) (w : World O) (rows : Rows GuardRo
         in_step.seated;
     boxes = in_step.boxes;
     bare = record {
-      snapshots = in_step.bare.snapshots;
       views = in_step.bare.views;
     };
+    snaps = in_step.snaps;
     derived = in_step.derived;
   }
 

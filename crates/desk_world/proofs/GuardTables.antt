@@ -1,5 +1,5 @@
 -- A world with other guards, another pool and other seats.
-use Rattle.std.proofs.Common.{◌≡◌, List, ◌∷◌, ◌++◌, map, refl, sym, ap, ◌∙◌, subst}
+use Rattle.std.proofs.Common.{◌≡◌, List, [], ◌∷◌, ◌++◌, map, refl, sym, ap, ◌∙◌, subst}
 use Rattle.std.proofs.Common.{true}
 use Rattle.std.specs.List.{flat_map}
 use Rattle.std.proofs.lemmas.List.{append_assoc, map-append}
@@ -8,6 +8,7 @@ use Rattle.script_words.specs.declared.commands.GuardWord.{GuardWord}
 use Rattle.plain_digraph.specs.Digraph.{Digraph}
 use Rattle.plain_digraph.specs.Lists.{AllOf}
 use Rattle.observe_core.specs.Seen.{Watched}
+use Rattle.alter_graph.specs.declared.snaps.SnapKeys.{SnapKeys}
 use Rattle.alter_graph.specs.Chains.{chains_seen}
 use Rattle.alter_graph.specs.State as graph
 use Rattle.alter_graph.specs.State.{AlterOf, state_of}
@@ -17,11 +18,12 @@ use Rattle.desk_world.specs.declared.tables.GuardRow.{GuardRow}
 use Rattle.desk_world.specs.declared.world.World.{World}
 use Rattle.desk_world.specs.Claims.{Claim, claims_of, own_claims, map_claim, guard_claim}
 use Rattle.desk_world.specs.Claims.{snap_claims, has_map_kind}
-use Rattle.desk_world.specs.InStep.{AreInStep, AreSeated, AreBoxes, IsBare}
+use Rattle.desk_world.specs.InStep.{AreInStep, AreSeated, AreBoxes}
 use Rattle.desk_world.specs.Looks.{Look, looked, look_in}
-use Rattle.desk_world.specs.Plain.{look_of, world_seen, labels_seen, ties_seen, guard_seen, snapshot_seen}
+use Rattle.desk_world.specs.Plain.{look_of, world_seen, labels_seen, ties_seen, guard_seen}
+use Rattle.desk_world.specs.Plain.{snapshot_seen}
 use Rattle.desk_world.proofs.Derived.{derived_agrees}
-use Rattle.desk_world.proofs.Relabelled.{Agrees, rows_agree, attributes_agree}
+use Rattle.desk_world.proofs.Relabelled.{Agrees, rows_agree, attributes_agree, snapshots_agree}
 use Rattle.desk_world.proofs.Seated.{all_left, all_right}
 
 module _ {O : Type 0} (w : World O) where
@@ -72,10 +74,13 @@ module _ {O : Type 0} (w : World O) where
       ∙ sym (append_assoc ahead (map guard_claim front) (map guard_claim back ++ after))
 
   -- no snapshot claims a seat that could be one of a guard
-  pub after_maps : IsBare w → AllOf (λ (x : Claim). has_map_kind x.role ≡ true) after
-  after_maps bare =
-      subst (λ rows. AllOf (λ (x : Claim). has_map_kind x.role ≡ true)
-      (flat_map snap_claims rows)) (sym bare.snapshots) tt
+  pub after_maps : AllOf (λ (x : Claim). has_map_kind x.role ≡ true) after
+  after_maps = each w.snapshots.rows
+    where
+      each : (table : List (Named SnapKeys))
+          → AllOf (λ (x : Claim). has_map_kind x.role ≡ true) (flat_map snap_claims table)
+      each [] = tt
+      each (e ∷ es) = (refl, (refl, each es))
 
   -- ---- the world with other guards
 
@@ -90,15 +95,15 @@ module _ {O : Type 0} (w : World O) where
         (sym (append_assoc node_maps arc_maps (map guard_claim rows.rows ++ after)))
 
   -- where the same is seen of all other claims, the guards and the pool alone are others
-  pub guards_seen : (bare : IsBare w) (g : Digraph) (look later : Look)
+  pub guards_seen : (g : Digraph) (look later : Look)
       (pool kinds : List GuardWord) (rows : Rows GuardRow) (boxes : World O) (a : AlterOf O)
-      → AllOf (Agrees look later) ahead
+      → AllOf (Agrees look later) ahead → AllOf (Agrees look later) after
       → world_seen g later kinds (with_guards rows boxes a)
       ≡ record (world_seen g look pool w) {
         guards = looked (guard_seen later) rows.rows;
         pool = kinds;
       }
-  guards_seen bare g look later pool kinds rows boxes a all =
+  guards_seen g look later pool kinds rows boxes a all halves =
       let node_labels = ap labels_seen all.0 in
       let arc_labels = ap labels_seen all.1.1.0 in
       let nodes = rows_agree look later sorts.Node w.nodes.maps.rows
@@ -107,8 +112,7 @@ module _ {O : Type 0} (w : World O) where
       (all_right (Agrees look later) node_maps arc_maps all.1.1.1.1) in
       let snapshots : looked (snapshot_seen g later) w.snapshots.rows
       ≡ looked (snapshot_seen g look) w.snapshots.rows =
-      subst (λ table. looked (snapshot_seen g later) table ≡ looked (snapshot_seen g look) table)
-      (sym bare.snapshots) refl in
+      snapshots_agree look later g w.snapshots.rows halves in
       let attributes = attributes_agree (ties_seen look w)
       (ties_seen later (with_guards rows boxes a)) w.attributes.rows
       (elim [ sorts.Node ↦ all.1.0 | sorts.Arc ↦ all.1.1.1.0 ]) in
@@ -127,6 +131,7 @@ module _ {O : Type 0} (watch : O → Watched) (w : World O) (rows : Rows GuardRo
     (a : AlterOf O) (in_step : AreInStep watch w) (then : graph.IsInStep (state_of watch a))
     (told_nothing : AreBoxes watch boxes.pool.items)
     (agree : AllOf (Agrees (look_of watch w) (look_in (chains_seen watch a.chains))) (ahead w))
+    (snaps : (chains_seen watch a.chains).snaps ≡ (chains_seen watch w.graph.chains).snaps)
   where
     pub guards_in_step : AreSeated (claims_with w rows.rows) (chains_seen watch a.chains)
         → AreInStep watch (with_guards w rows boxes a)
@@ -136,9 +141,9 @@ module _ {O : Type 0} (watch : O → Watched) (w : World O) (rows : Rows GuardRo
           (sym (claims_now w rows boxes a)) seated;
       boxes = told_nothing;
       bare = record {
-        snapshots = in_step.bare.snapshots;
         views = in_step.bare.views;
       };
+      snaps = snaps ∙ in_step.snaps;
       derived = derived_agrees (look_of watch w) (look_in (chains_seen watch a.chains)) w.nodes
           w.arcs w.attributes.rows agree.1.0 agree.1.1.1.0
           (all_left (Agrees (look_of watch w) (look_in (chains_seen watch a.chains))) (node_maps w)

@@ -1,6 +1,6 @@
 -- A world to which a guard came, and one from which a guard went.
 use Rattle.std.proofs.Common.{◌≡◌, List, [], ◌∷◌, ◌++◌, map, sym, ap, ◌∙◌, subst, Some}
-use Rattle.std.specs.Prelude.{option_map}
+use Rattle.std.specs.Prelude.{option_map, filter, not}
 use Rattle.std.proofs.lemmas.List.{append-nil, map-append}
 use Rattle.script_words.specs.declared.commands.GuardWord.{GuardWord}
 use Rattle.plain_digraph.specs.Digraph.{Digraph}
@@ -8,7 +8,7 @@ use Rattle.plain_digraph.specs.Items.{facts}
 use Rattle.plain_digraph.specs.Lists.{AllOf}
 use Rattle.observe_core.specs.Seen.{Seen, Watched}
 use Rattle.observe_core.specs.Told.{built}
-use Rattle.alter_graph.specs.Attaching.{Attaches, detached}
+use Rattle.alter_graph.specs.Attaching.{Attaches, detached, uses_key}
 use Rattle.alter_graph.specs.Chains.{ChainsSeen, chains_seen}
 use Rattle.alter_graph.specs.State as graph
 use Rattle.alter_graph.specs.State.{AlterOf, state_of}
@@ -23,6 +23,7 @@ use Rattle.desk_world.specs.Looks.{Look, look_in, looked}
 use Rattle.desk_world.specs.Plain.{plain_of, look_of, kinds_of, guard_seen, guard_by, world_seen}
 use Rattle.desk_world.proofs.Changing.{looked_more, looked_less}
 use Rattle.desk_world.proofs.Claimed.{look_came, agree_more, seats_more, agree_less, seats_less}
+use Rattle.desk_world.proofs.Claimed.{apart_all}
 use Rattle.desk_world.proofs.GuardOrder.{guard_comes}
 use Rattle.desk_world.proofs.GuardTables.{ahead, after, claims_with, claims_are, claims_midst}
 use Rattle.desk_world.proofs.GuardTables.{claims_apart, after_maps, with_guards, guards_seen}
@@ -31,6 +32,8 @@ use Rattle.desk_world.proofs.MapsComing.{built_plays}
 use Rattle.desk_world.proofs.NamedRows.{Stands}
 use Rattle.desk_world.proofs.Relabelled.{Agrees, guards_agree}
 use Rattle.desk_world.proofs.Seated.{all_left, all_right, all_both}
+use Rattle.desk_world.proofs.SnapTables.{snaps_attached, snaps_left}
+use Rattle.desk_world.proofs.Written.{IsElsewhere}
 
 -- the world with other guards and another pool
 abbrev pub guarded : plain.World → List (Named plain.Guard) → List GuardWord → plain.World
@@ -86,11 +89,12 @@ module _ {O : Type 0} (watch : O → Watched) (w : World O) (rows : Rows GuardRo
       guards_in_step watch w rows boxes a in_step then told_nothing
       (all_left (Agrees look now) (ahead w) (map guard_claim table)
       (all_left (Agrees look now) front back agree))
+      (snaps_attached row.sort row.key.0 came (state_of watch w.graph) (state_of watch a) attaches)
       (subst (λ list. AreSeated list (chains_seen watch a.chains))
       (sym (ap (claims_with w) put ∙ claims_midst w table (under name row) []))
       (seats_more row.sort row.key.0 Guard front back came (state_of watch w.graph)
       (state_of watch a) attaches next_plays seated
-      (guard_comes front one back (after_maps w in_step.bare))))
+      (guard_comes front one back (after_maps w))))
 
   row_seen : guard_seen now row ≡ Some (guard_by row.sort next)
   row_seen =
@@ -109,7 +113,8 @@ module _ {O : Type 0} (watch : O → Watched) (w : World O) (rows : Rows GuardRo
       let before = all_left (Agrees look now) (ahead w) (map guard_claim table) others in
       let old = all_right (Agrees look now) (ahead w) (map guard_claim table) others in
       ap (λ d. world_seen d now kinds (with_guards w rows boxes a)) attaches.graph
-      ∙ guards_seen w in_step.bare g look now pool kinds rows boxes a before
+      ∙ guards_seen w g look now pool kinds rows boxes a before
+      (all_right (Agrees look now) front back agree)
       ∙ ap (λ guards. guarded (plain_of watch w) guards kinds)
       (ap (looked (guard_seen now)) put
       ∙ looked_more (guard_seen now) table name row (guard_by row.sort next) row_seen
@@ -165,6 +170,13 @@ module _ {O : Type 0} (watch : O → Watched) (w : World O) (rows : Rows GuardRo
   pub less_in_step : AreInStep watch (with_guards w rows boxes a)
   less_in_step =
       guards_in_step watch w rows boxes a in_step then told_nothing before_agree
+      (ap (λ x. x.snaps) gone
+      ∙ ap (filter (λ k. not (uses_key row.sort row.key.0 k))) in_step.snaps
+      ∙ snaps_left row.sort row.key.0 w.snapshots.rows
+      (all_right (IsElsewhere row.sort row.key.0) (map guard_claim at.back) (after w)
+      (all_right (IsElsewhere row.sort row.key.0) prior behind
+      (apart_all prior (claim row.sort row.key.0 Guard) behind seated_there.claims_differ)))
+      ∙ sym in_step.snaps)
       (subst (λ list. AreSeated list (chains_seen watch a.chains))
       (sym (ap (claims_with w) left ∙ claims_apart w at.front at.back))
       (subst (AreSeated (prior ++ behind)) (sym gone)
@@ -186,8 +198,10 @@ module _ {O : Type 0} (watch : O → Watched) (w : World O) (rows : Rows GuardRo
       let pool = kinds_of watch w.pool.items in
       let kinds = kinds_of watch boxes.pool.items in
       ap (λ r. world_seen r.graph seen_now kinds (with_guards w rows boxes a)) same_graph
-      ∙ guards_seen w in_step.bare w.graph.graph.graph was seen_now pool kinds rows boxes a
+      ∙ guards_seen w w.graph.graph.graph was seen_now pool kinds rows boxes a
       before_agree
+      (all_right (Agrees was seen_now) (map guard_claim at.back) (after w)
+      (all_right (Agrees was seen_now) prior behind agree_left))
       ∙ ap (λ guards. guarded (plain_of watch w) guards kinds)
       (ap (looked (guard_seen seen_now)) left ∙ guards_agree was seen_now rest rest_agrees
       ∙ ap (looked (guard_seen was)) (sym left ∙ less)

@@ -135,16 +135,17 @@ second_none : {X : Type 0} (o p : Option X) → option_or o p ≡ None → p ≡
 second_none None p none = none
 second_none (Some x) p none = absurd (none-some x (sym none))
 
+-- whether a map is an index is told by its kind
+pub index_told : (name : Name) (kind : MapKind) (h : held.Held)
+    → is_index_of name (held_by kind h) ≡ is_index_kind name kind
+index_told name maps.Ints h = refl
+index_told name maps.Bools h = refl
+index_told name maps.Texts h = refl
+index_told name (maps.Degrees way) h = refl
+index_told name (maps.Trues map) h = refl
+
 module _ {O : Type 0} (watch : O → Watched) (w : World O) (in_step : AreInStep watch w)
     (sort : ItemSort) (name : Name) where
-  same_test : (kind : MapKind) (h : held.Held)
-      → is_index_of name (held_by kind h) ≡ is_index_kind name kind
-  same_test maps.Ints h = refl
-  same_test maps.Bools h = refl
-  same_test maps.Texts h = refl
-  same_test (maps.Degrees way) h = refl
-  same_test (maps.Trues map) h = refl
-
   abbrev look : Look
   look = look_of watch w
 
@@ -157,7 +158,7 @@ module _ {O : Type 0} (watch : O → Watched) (w : World O) (in_step : AreInStep
       let seen = leads_held look sort e.value lead.0 in
       let both = subst (λ o. AllOf (λ (f : Named Held). is_index_of name f.value ≡ false)
       (cons_option (option_map (under e.name) o) (looked (map_seen look sort) es))) seen none in
-      (sym (same_test e.value.kind lead.0.seen.held) ∙ both.0, unread_by es lead.1 both.1)
+      (sym (index_told name e.value.kind lead.0.seen.held) ∙ both.0, unread_by es lead.1 both.1)
 
   pub unread_rows : breach (plain_of watch w) (demands.NoneReads sort name) ≡ None
       → IsUnread name (tables_of w sort).maps.rows

@@ -45,6 +45,11 @@ use Rattle.desk_world.proofs.MapsWritten.{row_passes, rows_stay, front_same, bac
 use Rattle.desk_world.proofs.Putting.{seen_put, seated_put}
 use Rattle.desk_world.proofs.Relabelled.{Agrees}
 use Rattle.desk_world.proofs.Seated.{all_right, all_both, all_so, all_and, maps_sit}
+use Rattle.desk_world.proofs.SnapTables.{snaps_stay}
+use Rattle.alter_graph.specs.Attaching.{with_seats}
+use Rattle.alter_graph.specs.Chains.{seats_in}
+use Rattle.notify_chain.specs.Seats.{put_seat}
+use Rattle.desk_world.proofs.Seated.{all_right, all_both, all_so, all_and, maps_sit}
 
 -- ---- rows
 
@@ -164,7 +169,7 @@ module _ {O : Type 0} (watch : O → Watched) (w : World O) (in_step : AreInStep
         subst (AreInStep watch) (same_rows_world w sort a)
         (rows_in_step watch w (tables_of w sort).maps a in_step kept.then sort
         (derived_with was (look_at a) w sort (tables_of w sort).maps kept.others indexed
-        in_step.derived)
+        in_step.derived) kept.snaps
         (subst (λ list. AreSeated list (chains_seen watch a.chains)) (claims_are w sort)
         kept.seated))
 
@@ -176,7 +181,7 @@ module _ {O : Type 0} (watch : O → Watched) (w : World O) (in_step : AreInStep
         ∙ plain_later watch w sort (tables_of w sort).maps a
         ∙ (λ i. world_seen (kept.graph i).graph (look_at a) pool
         (with_rows w sort (tables_of w sort).maps a))
-        ∙ maps_seen w in_step.bare w.graph.graph.graph was (look_at a) pool a sort
+        ∙ maps_seen w w.graph.graph.graph was (look_at a) pool a sort
         (tables_of w sort).maps kept.others
         ∙ ap (with_maps (plain_of watch w) sort)
         (looked_changed (map_seen was sort) (map_seen (look_at a) sort) name (put_at value id) rows
@@ -382,6 +387,9 @@ module _ {O : Type 0} (watch : O → Watched) (w : World O) (in_step : AreInStep
           (claims_with w sort []) writing.kept.others
           (others_same watch w sort writing.done e ahead.rest parted differ c d (trues_with id v)
           moved));
+      snaps = ap (λ x. x.snaps) puts.is
+          ∙ snaps_stay sort (with_seats (put_seat puts.seat (seats_in sort c))) c
+          ∙ writing.kept.snaps;
     }
 
     -- what the index shows now

@@ -32,7 +32,15 @@ use Rattle.desk_world.proofs.Following.{look_hears}
 use Rattle.desk_world.proofs.Hearing.{hears_in, made_hear}
 use Rattle.desk_world.proofs.Remaining.{plays_on}
 use Rattle.desk_world.proofs.Seated.{all_so}
+use Rattle.desk_world.proofs.SnapTables.{snaps_told}
 use Rattle.desk_world.proofs.StillClaimed.{look_alike, remain_alike, seated_all}
+use Rattle.desk_world.proofs.SnapsFollow.{snapshots_on, snapshots_follow, halves_sit}
+use Rattle.desk_world.proofs.Seated.{SitsIn, last_claims}
+use Rattle.alter_graph.specs.Snaps.{Follows}
+use Rattle.alter_graph.specs.Present.{present_of}
+use Rattle.desk_world.specs.Plain.{snapshot_seen}
+use Rattle.desk_world.specs.Looks.{looked}
+use Rattle.alter_graph.specs.State.{SnapsFollow}
 
 -- ---- a step that may be refused is told as a change
 
@@ -75,7 +83,8 @@ module _ {O : Type 0} (watch : O → Watched) (step : PlainStep) (w : World O) (
     (may : is_refusable step ≡ true) (in_step : AreInStep watch w)
     (can : CanTake step w.graph.graph.graph)
     (went : IsSame (took step (state_of watch w.graph)) (state_of watch a))
-    (then : graph.IsInStep (state_of watch a)) where
+    (then : graph.IsInStep (state_of watch a))
+    (follows : SnapsFollow (step ∷ []) (state_of watch w.graph) (state_of watch a)) where
   abbrev later : World O
   later = record w { graph = a }
 
@@ -144,9 +153,9 @@ module _ {O : Type 0} (watch : O → Watched) (step : PlainStep) (w : World O) (
             none_left;
         boxes = in_step.boxes;
         bare = record {
-          snapshots = in_step.bare.snapshots;
           views = in_step.bare.views;
         };
+        snaps = went.chains.snaps ∙ snaps_told step s ∙ in_step.snaps;
         derived = subst (λ look. AreDerived look w.nodes w.arcs w.attributes.rows) (sym looks)
             next.derived;
       }
@@ -156,8 +165,20 @@ module _ {O : Type 0} (watch : O → Watched) (step : PlainStep) (w : World O) (
       let looks = look_alike (claims_of w) d t.chains went.chains in
       let g : a.graph.graph ≡ after_step s.graph step = went.graph in
       let tells = as_told step s.graph may in
-      (λ i. world_seen (g i) (looks i) (kinds_of watch w.pool.items) w)
-      ∙ step_follows w step s carries can then_valid (kinds_of watch w.pool.items) in_step.bare
+      let pool = kinds_of watch w.pool.items in
+      let table = looked (snapshot_seen s.graph (look_in s.chains)) w.snapshots.rows in
+      let shown = snapshots_follow (step ∷ []) s.graph a.graph.graph s.chains t.chains
+      w.snapshots.rows
+      (halves_sit s.chains w.snapshots.rows (last_claims (SitsIn s.chains) w in_step.seated.there))
+      (halves_sit t.chains w.snapshots.rows
+      (last_claims (SitsIn t.chains) w stays_in_step.seated.there))
+      (subst (AllOf (Follows (step ∷ []) (present_of s.graph) s.chains (present_of a.graph.graph)
+      t.chains)) in_step.snaps follows.each) in
+      (λ i. record (world_seen a.graph.graph (look_in t.chains) pool w) { snapshots = shown i })
+      ∙ (λ i. record (world_seen (g i) (looks i) pool w) {
+        snapshots = snapshots_on (step ∷ []) s.graph table;
+      })
+      ∙ step_follows w step s carries can then_valid pool table
       (subst (λ n. AllOf (λ e. MayBurn (look_in s.chains) n e.value) w.guards.rows) (sym tells.is)
       (none_burns tells.change w.guards.rows))
     where

@@ -152,9 +152,9 @@ module _ {O : Type 0} (watch : O → Watched) (w : World O) (a : AlterOf O) (gua
           (subst (λ list. AreSeated list (with_none_left c)) (sym claims_are) altered.seated);
       boxes = altered.boxes;
       bare = record {
-        snapshots = altered.bare.snapshots;
         views = altered.bare.views;
       };
+      snaps = ap (λ x. x.snaps) taken ∙ altered.snaps;
       derived = subst (λ look. AreDerived look w.nodes w.arcs w.attributes.rows) (sym same_look)
           altered.derived;
     }

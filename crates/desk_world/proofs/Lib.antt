@@ -1,3 +1,4 @@
+pub mod ColumnValues
 pub mod Columns
 pub mod Looks
 pub mod Found
@@ -59,6 +60,8 @@ pub mod Claimed
 pub mod Putting
 pub mod NamedRows
 pub mod Derived
+pub mod SnapTables
+pub mod SnapsFollow
 pub mod MapTables
 pub mod BuiltMaps
 pub mod Indexed
@@ -113,6 +116,20 @@ pub mod SeatsHold
 pub mod DerivedTold
 pub mod ReadAnswers
 pub mod MapReaders
+pub mod SnapCopies
+pub mod SnapsFound
+pub mod SnapRows
+pub mod SnapsComing
+pub mod SnapCommands
+pub mod SnapsReady
+pub mod SnapLines
+pub mod HalvesGone
+pub mod SnapsGoing
+pub mod RestoreCopies
+pub mod RestoreSteps
+pub mod RestoreMaking
+pub mod RestoredWorlds
+pub mod RestoreCommands
 pub mod SeatsAsked
 mod Replaced
 mod TieLists

@@ -23,8 +23,9 @@ use Rattle.desk_world.specs.declared.world.World.{World}
 use Rattle.desk_world.specs.InStep.{AreInStep}
 use Rattle.desk_world.specs.Looks.{Look, looked}
 use Rattle.desk_world.specs.Plain.{plain_of, look_of, tables_of, map_seen, held_by, view_of}
-use Rattle.desk_world.specs.Reads.{is_index_of}
+use Rattle.desk_world.specs.Indexes.{is_index_kind}
 use Rattle.desk_world.proofs.MapTables.{maps_plain}
+use Rattle.desk_world.proofs.Indexed.{index_told}
 use Rattle.desk_world.proofs.MapsFound.{Leads, leads_held, rows_lead}
 
 -- ---- tables
@@ -47,19 +48,10 @@ oldest_view sort name (e ∷ es) =
       | false ↦ rest
     ]
 
--- whether a map is an index is told by its kind
-same_index : (name : Name) (kind : MapKind) (h : held.Held)
-    → refusals.is_index_of name (held_by kind h) ≡ is_index_of name kind
-same_index name maps.Ints h = refl
-same_index name maps.Bools h = refl
-same_index name maps.Texts h = refl
-same_index name (maps.Degrees way) h = refl
-same_index name (maps.Trues map) h = refl
-
 oldest_index : (look : Look) (sort : ItemSort) (name : Name) (rows : List (Named MapRow))
     → AllOf (λ (e : Named MapRow). Leads look sort e.value) rows
     → oldest (refusals.is_index_of name) (looked (map_seen look sort) rows)
-    ≡ oldest (λ (row : MapRow). is_index_of name row.kind) rows
+    ≡ oldest (λ (row : MapRow). is_index_kind name row.kind) rows
 oldest_index look sort name [] all = refl
 oldest_index look sort name (e ∷ es) all =
     let rest = oldest_index look sort name es all.1 in
@@ -71,12 +63,12 @@ oldest_index look sort name (e ∷ es) all =
     ∙ ap (λ b. option_map (λ (f : Named plain.Held). f.name)
     (cond b (Some (under e.name (held_by e.value.kind h)))
     (find (λ (f : Named plain.Held). refusals.is_index_of name f.value) more)))
-    (same_index name e.value.kind h)
-    ∙ elim (is_index_of name e.value.kind) as (λ b. option_map (λ (f : Named plain.Held). f.name)
+    (index_told name e.value.kind h)
+    ∙ elim (is_index_kind name e.value.kind) as (λ b. option_map (λ (f : Named plain.Held). f.name)
     (cond b (Some (under e.name (held_by e.value.kind h)))
     (find (λ (f : Named plain.Held). refusals.is_index_of name f.value) more))
     ≡ option_map (λ (f : Named MapRow). f.name)
-    (cond b (Some e) (find (λ (f : Named MapRow). is_index_of name f.value.kind) es))) [
+    (cond b (Some e) (find (λ (f : Named MapRow). is_index_kind name f.value.kind) es))) [
       | true ↦ refl
       | false ↦ rest
     ]
@@ -93,7 +85,7 @@ module _ {O : Type 0} (watch : O → Watched) (w : World O) (in_step : AreInStep
 
   abbrev pub index_found : Option Name
   index_found =
-      oldest (λ (row : MapRow). is_index_of name row.kind) (tables_of w sort).maps.rows
+      oldest (λ (row : MapRow). is_index_kind name row.kind) (tables_of w sort).maps.rows
 
   reader_is : reader_of world sort name ≡ option_or view_found index_found
   reader_is =

@@ -22,7 +22,7 @@ use Rattle.desk_world.specs.declared.tables.MapRow.{MapRow}
 use Rattle.desk_world.specs.declared.world.World.{World}
 use Rattle.desk_world.specs.Claims.{Claim, claims_of, own_claims, map_claim, guard_claim}
 use Rattle.desk_world.specs.Claims.{snap_claims}
-use Rattle.desk_world.specs.InStep.{AreInStep, AreSeated, IsBare}
+use Rattle.desk_world.specs.InStep.{AreInStep, AreSeated}
 use Rattle.desk_world.specs.Derived.{AreDerived}
 use Rattle.desk_world.specs.Looks.{Look, looked, look_in}
 use Rattle.desk_world.specs.MapTables.{with_table}
@@ -31,6 +31,7 @@ use Rattle.desk_world.specs.Plain.{guard_seen, snapshot_seen, tables_of, plain_o
 use Rattle.desk_world.specs.Plain.{kinds_of}
 use Rattle.desk_world.proofs.Derived.{derived_rows}
 use Rattle.desk_world.proofs.Relabelled.{Agrees, rows_agree, guards_agree, attributes_agree}
+use Rattle.desk_world.proofs.Relabelled.{snapshots_agree}
 use Rattle.desk_world.proofs.Seated.{all_left, all_right}
 
 module _ {O : Type 0} where
@@ -95,6 +96,15 @@ module _ {O : Type 0} where
   claims_are w sorts.Node = refl
   claims_are w sorts.Arc = refl
 
+  -- the halves of snapshots stand behind the maps
+  pub halves_behind : (P : Claim → Type 0) (w : World O) (sort : ItemSort)
+      → AllOf P (behind w sort) → AllOf P (flat_map snap_claims w.snapshots.rows)
+  halves_behind P w sorts.Node all =
+      all_right P (map guard_claim w.guards.rows) (flat_map snap_claims w.snapshots.rows)
+      (all_right P (map (map_claim sorts.Arc) w.arcs.maps.rows) (other_claims w) all)
+  halves_behind P w sorts.Arc all =
+      all_right P (map guard_claim w.guards.rows) (flat_map snap_claims w.snapshots.rows) all
+
   -- a map in the midst of others
   pub claims_midst : (w : World O) (sort : ItemSort) (front : List (Named MapRow))
       (e : Named MapRow) (back : List (Named MapRow))
@@ -123,7 +133,7 @@ module _ {O : Type 0} where
 
   -- ---- its plain world
 
-  module _ (w : World O) (bare : IsBare w) (g : Digraph) (look later : Look)
+  module _ (w : World O) (g : Digraph) (look later : Look)
       (pool : List GuardWord) (a : AlterOf O) where
     others : AllOf (Agrees look later) (other_claims w)
         → (looked (guard_seen later) w.guards.rows ≡ looked (guard_seen look) w.guards.rows)
@@ -133,8 +143,9 @@ module _ {O : Type 0} where
       guards_agree look later w.guards.rows
           (all_left (Agrees look later) (map guard_claim w.guards.rows)
           (flat_map snap_claims w.snapshots.rows) agree),
-      subst (λ table. looked (snapshot_seen g later) table ≡ looked (snapshot_seen g look) table)
-          (sym bare.snapshots) refl,
+      snapshots_agree look later g w.snapshots.rows
+          (all_right (Agrees look later) (map guard_claim w.guards.rows)
+          (flat_map snap_claims w.snapshots.rows) agree),
     )
 
     -- where the same is seen of all other claims, the maps of the sort alone are others
@@ -206,26 +217,27 @@ module _ {O : Type 0} (watch : O → Watched) (w : World O) (rows : Rows MapRow)
     pub rows_in_step : (sort : ItemSort)
         → AreDerived (look_in (chains_seen watch a.chains)) (with_table w sort rows).nodes
         (with_table w sort rows).arcs w.attributes.rows
+        → (chains_seen watch a.chains).snaps ≡ (chains_seen watch w.graph.chains).snaps
         → AreSeated (claims_with w sort rows.rows) (chains_seen watch a.chains)
         → AreInStep watch (with_rows w sort rows a)
-    rows_in_step sorts.Node derived seated = record {
+    rows_in_step sorts.Node derived snaps seated = record {
       graph = then;
       seated = seated;
       boxes = in_step.boxes;
       bare = record {
-        snapshots = in_step.bare.snapshots;
         views = in_step.bare.views;
       };
+      snaps = snaps ∙ in_step.snaps;
       derived = derived;
     }
-    rows_in_step sorts.Arc derived seated = record {
+    rows_in_step sorts.Arc derived snaps seated = record {
       graph = then;
       seated = seated;
       boxes = in_step.boxes;
       bare = record {
-        snapshots = in_step.bare.snapshots;
         views = in_step.bare.views;
       };
+      snaps = snaps ∙ in_step.snaps;
       derived = derived;
     }
 
@@ -246,7 +258,7 @@ module _ {O : Type 0} (watch : O → Watched) (w : World O) (sort : ItemSort) (r
   pub same_in_step : AreInStep watch (with_rows w sort rows w.graph)
   same_in_step =
       rows_in_step watch w rows w.graph in_step in_step.graph sort
-      (derived_rows (look_of watch w) w sort rows same in_step.derived)
+      (derived_rows (look_of watch w) w sort rows same in_step.derived) refl
       (subst (λ list. AreSeated list (chains_seen watch w.graph.chains))
       (claims_are w sort ∙ ap (claims_with w sort) (sym same)) in_step.seated)
 
@@ -254,7 +266,7 @@ module _ {O : Type 0} (watch : O → Watched) (w : World O) (sort : ItemSort) (r
   same_plain =
       let look = look_of watch w in
       plain_later watch w sort rows w.graph
-      ∙ maps_seen w in_step.bare w.graph.graph.graph look look (kinds_of watch w.pool.items) w.graph
+      ∙ maps_seen w w.graph.graph.graph look look (kinds_of watch w.pool.items) w.graph
       sort rows (all_agree look (claims_with w sort []))
       ∙ ap (with_maps (plain_of watch w) sort)
       (ap (looked (map_seen look sort)) same ∙ sym (maps_plain watch w sort))

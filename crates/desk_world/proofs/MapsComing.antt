@@ -48,6 +48,13 @@ use Rattle.desk_world.proofs.Indexed.{IsUnread, indexed_more, indexed_less, deri
 use Rattle.desk_world.proofs.NamedRows.{Stands, all_stay, none_stands}
 use Rattle.desk_world.proofs.Relabelled.{Agrees, rows_agree}
 use Rattle.desk_world.proofs.Seated.{all_left, all_right, all_both}
+use Rattle.desk_world.proofs.SnapTables.{snaps_stay, snaps_left}
+use Rattle.alter_graph.specs.Attaching.{uses_key, with_seats}
+use Rattle.alter_graph.specs.Chains.{seats_in}
+use Rattle.std.specs.Prelude.{filter, not}
+use Rattle.desk_world.proofs.Claimed.{apart_all}
+use Rattle.desk_world.proofs.Written.{IsElsewhere}
+use Rattle.desk_world.proofs.MapTables.{halves_behind}
 
 -- ---- maps of values
 
@@ -178,6 +185,8 @@ module _ {O : Type 0} (watch : O → Watched) (w : World O) (sort : ItemSort) (r
       (indexed_more (now sort) table name row
       (indexes_agree look now sort table table_agrees indexes_are) indexed))
       in_step.derived)
+      (ap (λ x. x.snaps) comes.is
+      ∙ snaps_stay chain (with_seats (seats_in chain earlier ++ comes.seat ∷ [])) earlier)
       (subst (λ list. AreSeated list since)
       (sym (ap (claims_with w sort) put ∙ claims_midst w sort table (under name row) []))
       (seats_comes chain row.key.0 role front back next earlier since comes plays seated
@@ -195,7 +204,7 @@ module _ {O : Type 0} (watch : O → Watched) (w : World O) (sort : ItemSort) (r
       let pool = kinds_of watch w.pool.items in
       plain_later watch w sort rows a
       ∙ (λ i. world_seen (same_graph i) now pool later)
-      ∙ maps_seen w in_step.bare g look now pool a sort rows others_show
+      ∙ maps_seen w g look now pool a sort rows others_show
       ∙ ap (with_maps (plain_of watch w) sort)
       (ap (looked (map_seen now sort)) put
       ∙ looked_more (map_seen now sort) table name row new row_seen
@@ -301,6 +310,14 @@ module _ {O : Type 0} (watch : O → Watched) (w : World O) (sort : ItemSort) (r
         (indexed_less (was sort) all_rows name row at unread
         (own_indexes w sort was in_step.derived))))
         in_step.derived)
+        (ap (λ x. x.snaps) gone
+        ∙ ap (filter (λ k. not (uses_key chain_of row.key.0 k))) in_step.snaps
+        ∙ snaps_left chain_of row.key.0 w.snapshots.rows
+        (halves_behind (IsElsewhere chain_of row.key.0) w sort
+        (all_right (IsElsewhere chain_of row.key.0) (map (map_claim sort) at.back) (behind w sort)
+        (all_right (IsElsewhere chain_of row.key.0) ahead after
+        (apart_all ahead (map_claim sort (under name row)) after seated_there.claims_differ))))
+        ∙ sym in_step.snaps)
         (subst (λ list. AreSeated list (chains_seen watch a.chains))
         (sym (ap (claims_with w sort) left ∙ claims_apart w sort at.front at.back))
         (subst (AreSeated (ahead ++ after)) (sym gone)
@@ -313,7 +330,7 @@ module _ {O : Type 0} (watch : O → Watched) (w : World O) (sort : ItemSort) (r
         let pool = kinds_of watch w.pool.items in
         plain_later watch w sort rows a
         ∙ (λ i. world_seen (same_graph i).graph seen_now pool (with_rows w sort rows a))
-        ∙ maps_seen w in_step.bare w.graph.graph.graph was seen_now pool a sort rows others_agree
+        ∙ maps_seen w w.graph.graph.graph was seen_now pool a sort rows others_agree
         ∙ ap (with_maps (plain_of watch w) sort)
         (ap (looked (map_seen seen_now sort)) left ∙ rows_agree was seen_now sort rest rest_agrees
         ∙ ap (looked (map_seen was sort)) (sym left) ∙ plain_less)

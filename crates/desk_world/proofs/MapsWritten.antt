@@ -48,6 +48,11 @@ use Rattle.desk_world.proofs.Putting.{seen_put, all_elsewhere, seated_put}
 use Rattle.desk_world.proofs.Relabelled.{Agrees}
 use Rattle.desk_world.proofs.Seated.{all_left, all_right, all_both}
 use Rattle.desk_world.proofs.Written.{no_half}
+use Rattle.desk_world.proofs.SnapTables.{snaps_stay}
+use Rattle.alter_graph.specs.Attaching.{with_seats}
+use Rattle.alter_graph.specs.Chains.{seats_in}
+use Rattle.notify_chain.specs.Seats.{put_seat}
+use Rattle.desk_world.proofs.Written.{no_half}
 
 -- ---- what a map of a value's type holds
 
@@ -219,6 +224,7 @@ module _ {O : Type 0} (watch : O → Watched) (w : World O) (sort : ItemSort) wh
     pub seated : AreSeated (claims_of w) (chains_seen watch a.chains)
     pub others : AllOf (Agrees (look_of watch w) (look_in (chains_seen watch a.chains)))
         (claims_with w sort [])
+    pub snaps : (chains_seen watch a.chains).snaps ≡ (chains_seen watch w.graph.chains).snaps
 
   -- a row among those of the sort
   module _ (front : List (Named MapRow)) (e : Named MapRow) (back : List (Named MapRow))
@@ -301,6 +307,8 @@ module _ {O : Type 0} (watch : O → Watched) (w : World O) (sort : ItemSort) (n
         in_step.seated;
     others = others_same watch w sort at.front (under name row) at.back at.is
         in_step.seated.claims_differ c d (held_with value id) moved;
+    snaps = ap (λ x. x.snaps) puts.is
+        ∙ snaps_stay sort (with_seats (put_seat puts.seat (seats_in sort c))) c;
   }
 
   -- what the map's own row shows

@@ -1,6 +1,5 @@
 -- A world in which an item got a label.
-use Rattle.std.proofs.Common.{◌≡◌, ℕ, false, List, [], ◌∷◌, ◌++◌, map, refl, sym, ap}
-use Rattle.std.proofs.Common.{subst}
+use Rattle.std.proofs.Common.{◌≡◌, ℕ, false, List, [], ◌∷◌, ◌++◌, map, refl, ap}
 use Rattle.std.proofs.Common.{Option}
 use Rattle.std.specs.Prelude.{option_map, ◌==◌, ◌&&◌}
 use Rattle.std.specs.FinMap as fin
@@ -23,7 +22,6 @@ use Rattle.desk_world.specs.Claims as claims
 use Rattle.desk_world.specs.Claims.{Claim, claims_of, is_claimed, ClaimsDiffer, map_claim}
 use Rattle.desk_world.specs.Claims.{guard_claim}
 use Rattle.desk_world.specs.Claims.{snap_claims, role_of}
-use Rattle.desk_world.specs.InStep.{IsBare}
 use Rattle.desk_world.specs.Looks.{Look, looked}
 use Rattle.desk_world.specs.Plain.{world_seen, map_seen, labels_seen, attribute_seen, ties_seen}
 use Rattle.desk_world.specs.Plain.{guard_seen, guard_by, snapshot_seen, held_by}
@@ -31,6 +29,9 @@ use Rattle.desk_world.specs.Plain.{tables_of}
 use Rattle.desk_world.proofs.Changing.{same_rows}
 use Rattle.desk_world.proofs.Seated.{all_left, all_right}
 use Rattle.desk_world.proofs.Written.{IsElsewhere}
+use Rattle.std.specs.Prelude.{option_and_then}
+use Rattle.alter_graph.specs.declared.snaps.SnapKeys.{SnapKeys}
+use Rattle.desk_world.specs.Copies.{copy_of_halves}
 
 -- ---- claims of other seats
 
@@ -69,6 +70,22 @@ module _ (look later : Look) where
       each [] all = tt
       each (e ∷ es) all = (ap (option_map (guard_by e.value.sort)) all.0, each es all.1)
 
+  pub snapshots_agree : (g : Digraph) (table : List (Named SnapKeys))
+      → AllOf Agrees (flat_map snap_claims table)
+      → looked (snapshot_seen g later) table ≡ looked (snapshot_seen g look) table
+  snapshots_agree g table all =
+      same_rows (snapshot_seen g look) (snapshot_seen g later) table (each table all)
+    where
+      each : (table : List (Named SnapKeys)) → AllOf Agrees (flat_map snap_claims table)
+          → AllOf (λ (e : Named SnapKeys). snapshot_seen g later e.value
+          ≡ snapshot_seen g look e.value) table
+      each [] all = tt
+      each (e ∷ es) all = (
+        λ i. option_and_then (λ (nodes : Seen). option_map
+            (λ (arcs : Seen). copy_of_halves g nodes.held arcs.held) (all.1.0 i)) (all.0 i),
+        each es all.1.1,
+      )
+
 -- attributes hang on the seats of ties alone
 pub attributes_agree : (ties others : ItemSort → Option Seen) (table : List (Named AttributeRow))
     → ((sort : ItemSort) → others sort ≡ ties sort)
@@ -77,21 +94,20 @@ attributes_agree ties others table same = λ i. looked (attribute_seen (λ sort.
 
 -- ---- the world
 
-module _ {O : Type 0} (w : World O) (bare : IsBare w) (g : Digraph) (look later : Look)
-    (pool : List GuardWord) where
+module _ {O : Type 0} (w : World O) (g : Digraph) (look later : Look) (pool : List GuardWord) where
   -- what hangs on no item of the sorts
   others_agree : ((sort : ItemSort)
       → later sort (tables_of w sort).ties.0 ≡ look sort (tables_of w sort).ties.0)
       → AllOf (Agrees look later) (map guard_claim w.guards.rows)
+      → AllOf (Agrees look later) (flat_map snap_claims w.snapshots.rows)
       → (looked (guard_seen later) w.guards.rows ≡ looked (guard_seen look) w.guards.rows)
       × (looked (snapshot_seen g later) w.snapshots.rows
       ≡ looked (snapshot_seen g look) w.snapshots.rows)
       × (looked (attribute_seen (ties_seen later w)) w.attributes.rows
       ≡ looked (attribute_seen (ties_seen look w)) w.attributes.rows)
-  others_agree ties guards = (
+  others_agree ties guards snaps = (
     guards_agree look later w.guards.rows guards,
-    subst (λ table. looked (snapshot_seen g later) table ≡ looked (snapshot_seen g look) table)
-        (sym bare.snapshots) refl,
+    snapshots_agree look later g w.snapshots.rows snaps,
     attributes_agree (ties_seen look w) (ties_seen later w) w.attributes.rows ties,
   )
 
@@ -106,9 +122,10 @@ module _ {O : Type 0} (w : World O) (bare : IsBare w) (g : Digraph) (look later 
       → ((other : ItemSort) → AllOf (Agrees look later)
       (map (map_claim other) (tables_of w other).maps.rows))
       → AllOf (Agrees look later) (map guard_claim w.guards.rows)
+      → AllOf (Agrees look later) (flat_map snap_claims w.snapshots.rows)
       → world_seen g later pool w ≡ labelled (world_seen g look pool w) sort id name
-  one_label sorts.Node id name here apart ties agree guards =
-      let o = others_agree ties guards in
+  one_label sorts.Node id name here apart ties agree guards snaps =
+      let o = others_agree ties guards snaps in
       let node_maps = rows_agree look later sorts.Node w.nodes.maps.rows (agree sorts.Node) in
       let arc_maps = rows_agree look later sorts.Arc w.arcs.maps.rows (agree sorts.Arc) in
       let arc_labels = ap labels_seen (apart sorts.Arc (λ e. no_arc e)) in
@@ -122,8 +139,8 @@ module _ {O : Type 0} (w : World O) (bare : IsBare w) (g : Digraph) (look later 
     where
       no_arc : sorts.Node ≡ sorts.Arc → ⊥
       no_arc e = true≢false (ap (λ s. is_sort s sorts.Node) e)
-  one_label sorts.Arc id name here apart ties agree guards =
-      let o = others_agree ties guards in
+  one_label sorts.Arc id name here apart ties agree guards snaps =
+      let o = others_agree ties guards snaps in
       let node_maps = rows_agree look later sorts.Node w.nodes.maps.rows (agree sorts.Node) in
       let arc_maps = rows_agree look later sorts.Arc w.arcs.maps.rows (agree sorts.Arc) in
       let node_labels = ap labels_seen (apart sorts.Node (λ e. no_node e)) in
@@ -165,6 +182,17 @@ module _ {O : Type 0} (w : World O) (differ : ClaimsDiffer (claims_of w)) where
       → AllOf (IsElsewhere sort (tables_of w sort).labels.0) (map guard_claim w.guards.rows)
   guards_elsewhere sort =
       all_left (IsElsewhere sort (tables_of w sort).labels.0) (map guard_claim w.guards.rows)
+      (flat_map snap_claims w.snapshots.rows)
+      (all_right (IsElsewhere sort (tables_of w sort).labels.0)
+      (map (map_claim sorts.Arc) w.arcs.maps.rows) after_arcs
+      (all_right (IsElsewhere sort (tables_of w sort).labels.0)
+      (map (map_claim sorts.Node) w.nodes.maps.rows) after_nodes (all_elsewhere sort)))
+
+  -- every half of a snapshot sits elsewhere than the labels
+  pub halves_elsewhere : (sort : ItemSort)
+      → AllOf (IsElsewhere sort (tables_of w sort).labels.0) (flat_map snap_claims w.snapshots.rows)
+  halves_elsewhere sort =
+      all_right (IsElsewhere sort (tables_of w sort).labels.0) (map guard_claim w.guards.rows)
       (flat_map snap_claims w.snapshots.rows)
       (all_right (IsElsewhere sort (tables_of w sort).labels.0)
       (map (map_claim sorts.Arc) w.arcs.maps.rows) after_arcs

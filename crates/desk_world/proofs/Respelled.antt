@@ -36,6 +36,7 @@ use Rattle.desk_world.specs.Plain.{held_by}
 use Rattle.desk_world.specs.Retyping.{IsMapOf}
 use Rattle.desk_world.specs.Values.{HasItem, Spells, kind_for, type_for, held_with}
 use Rattle.desk_world.proofs.AsMade.{as_values}
+use Rattle.desk_world.proofs.ColumnValues.{at_values}
 use Rattle.desk_world.proofs.Columns.{same_column}
 use Rattle.desk_world.proofs.LiveEntries.{by_ids}
 use Rattle.desk_world.proofs.MapCommands.{same_written}
@@ -72,31 +73,6 @@ module _ {X : Type 0} (value : ℕ → X) where
       either : (b : Bool) → cond b (Some (value q)) (Some (value q)) ≡ Some (value q)
       either true = refl
       either false = refl
-
-  at_values : (items : List ℕ) (q : ℕ)
-      → fin.get (column_of items value) q ≡ cond (has items q) (Some (value q)) None
-  at_values items q =
-      fin.get-from_entries nat_cmp_total (map (λ id. (id, value id)) items) q ∙ found items
-    where
-      found : (list : List ℕ) → fin.find nat_cmp q (map (λ id. (id, value id)) list)
-          ≡ cond (has list q) (Some (value q)) None
-      found [] = refl
-      found (id ∷ list) =
-          let rest = found list in
-          elim (cases_eq q id) [
-            | inl same ↦
-                ap (λ t. cond t (Some (value id))
-                (fin.find nat_cmp q (map (λ id. (id, value id)) list))) (ties_same q id same)
-                ∙ ap (λ n. Some (value n)) (sym same)
-                ∙ sym (ap (λ b. cond (b || has list q) (Some (value q)) None)
-                (eq-eqb id q (sym same)))
-            | inr other ↦
-                ap (λ t. cond t (Some (value id))
-                (fin.find nat_cmp q (map (λ id. (id, value id)) list))) (ties_other q id other)
-                ∙ rest
-                ∙ sym (ap (λ b. cond (b || has list q) (Some (value q)) None)
-                (ne_eqb id q (λ is. other (sym is))))
-          ]
 
 -- where each of the items gets its value, it doesn't matter what they had
 all_values : {X : Type 0} (value before : ℕ → X) (items : List ℕ)

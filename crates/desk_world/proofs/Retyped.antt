@@ -57,6 +57,10 @@ use Rattle.desk_world.proofs.Relabelled.{Agrees}
 use Rattle.desk_world.proofs.Reroled.{seats_reroled}
 use Rattle.desk_world.proofs.Seated.{all_left, all_right, all_both, all_so}
 use Rattle.desk_world.proofs.Written.{IsElsewhere, reseated, look_put, look_elsewhere, no_half}
+use Rattle.desk_world.proofs.SnapTables.{snaps_stay}
+use Rattle.alter_graph.specs.Attaching.{with_seats}
+use Rattle.alter_graph.specs.Chains.{seats_in}
+use Rattle.notify_chain.specs.Seats.{put_seat}
 
 -- ---- tables
 
@@ -388,7 +392,9 @@ module _ {O : Type 0} (watch : O → Watched) (w : World O) (sort : ItemSort) (n
   retyped_in_step =
       rows_in_step watch w rows a in_step then sort
       (derived_with look next w sort rows others_agree (indexed (indexes_were sort))
-      in_step.derived) seated_now
+      in_step.derived)
+      (ap (λ x. x.snaps) chains_now ∙ snaps_stay sort (with_seats (put_seat t (seats_in sort c))) c)
+      seated_now
 
   -- ---- the plain world
 
@@ -443,7 +449,7 @@ module _ {O : Type 0} (watch : O → Watched) (w : World O) (sort : ItemSort) (n
         plain_later watch w sort rows a
         ∙ ap (λ (b : AlterOf O). world_seen b.graph.graph next (kinds_of watch w.pool.items)
         (with_rows w sort rows a)) seat.is
-        ∙ maps_seen w in_step.bare w.graph.graph.graph look next (kinds_of watch w.pool.items) a
+        ∙ maps_seen w w.graph.graph.graph look next (kinds_of watch w.pool.items) a
         sort rows others_agree
         ∙ ap (with_maps (plain_of watch w) sort)
         (ap (looked (map_seen next sort)) put

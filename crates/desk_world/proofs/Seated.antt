@@ -92,6 +92,17 @@ module _ {O : Type 0} (w : World O) (c : ChainsSeen) (seated : AreSeated (claims
       (all_left (SitsIn c) arc_claims rest_claims
       (all_right (SitsIn c) node_claims (arc_claims ++ rest_claims) seated.there.1.1.1.1))
 
+-- the halves of snapshots are claimed last
+pub last_claims : {O : Type 0} (P : Claim → Type 0) (w : World O) → AllOf P (claims_of w)
+    → AllOf P (flat_map snap_claims w.snapshots.rows)
+last_claims P w all =
+    all_right P (map guard_claim w.guards.rows) (flat_map snap_claims w.snapshots.rows)
+    (all_right P (map (map_claim sorts.Arc) w.arcs.maps.rows)
+    (map guard_claim w.guards.rows ++ flat_map snap_claims w.snapshots.rows)
+    (all_right P (map (map_claim sorts.Node) w.nodes.maps.rows)
+    (map (map_claim sorts.Arc) w.arcs.maps.rows
+    ++ (map guard_claim w.guards.rows ++ flat_map snap_claims w.snapshots.rows)) all.1.1.1.1))
+
 -- a role that is there is played by what is seen
 pub plays_seen : (role : claims.Role) (o : Option Seen) (s : Seen) → o ≡ Some s → Sits role o
     → Plays role s

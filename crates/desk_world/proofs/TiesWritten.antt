@@ -23,12 +23,16 @@ use Rattle.desk_world.specs.Derived.{AreDerived, AreNumbered, AreOfRows, ties_at
 use Rattle.desk_world.specs.InStep.{AreInStep, AreSeated}
 use Rattle.desk_world.specs.Looks.{Look, look_in, looked}
 use Rattle.desk_world.specs.Plain.{plain_of, look_of, tables_of, labels_seen, world_seen, kinds_of}
-use Rattle.desk_world.specs.Plain.{attribute_seen, ties_seen, snapshot_seen}
+use Rattle.desk_world.specs.Plain.{attribute_seen, ties_seen}
 use Rattle.desk_world.proofs.Claimed.{apart_all}
 use Rattle.desk_world.proofs.Derived.{indexes_agree}
 use Rattle.desk_world.proofs.Following.{same_sort}
-use Rattle.desk_world.proofs.Relabelled.{Agrees, rows_agree, guards_agree}
+use Rattle.desk_world.proofs.Relabelled.{Agrees, rows_agree, guards_agree, snapshots_agree}
 use Rattle.desk_world.proofs.Seated.{all_left, all_right, all_so}
+use Rattle.desk_world.proofs.SnapTables.{snaps_stay}
+use Rattle.alter_graph.specs.Attaching.{with_seats}
+use Rattle.alter_graph.specs.Chains.{seats_in}
+use Rattle.notify_chain.specs.Seats.{put_seat}
 use Rattle.desk_world.proofs.Written.{reseated, look_put, look_elsewhere, look_kept, seats_stay}
 use Rattle.desk_world.proofs.Written.{no_half, IsElsewhere}
 
@@ -69,6 +73,13 @@ module _ {O : Type 0} (w : World O) where
   guards_hold : (P : Claim → Type 0) → AllOf P table_claims → AllOf P guard_claims
   guards_hold P all =
       all_left P guard_claims (flat_map snap_claims w.snapshots.rows)
+      (all_right P (map_claims sorts.Arc) other_claims
+      (all_right P (map_claims sorts.Node) (map_claims sorts.Arc ++ other_claims) all))
+
+  halves_hold : (P : Claim → Type 0) → AllOf P table_claims
+      → AllOf P (flat_map snap_claims w.snapshots.rows)
+  halves_hold P all =
+      all_right P guard_claims (flat_map snap_claims w.snapshots.rows)
       (all_right P (map_claims sorts.Arc) other_claims
       (all_right P (map_claims sorts.Node) (map_claims sorts.Arc ++ other_claims) all))
 
@@ -227,9 +238,10 @@ module _ {O : Type 0} (watch : O → Watched) (w : World O) (sort : ItemSort) (o
           (ap (λ s. claims.is_map s.kind) wrote) in_step.seated);
       boxes = in_step.boxes;
       bare = record {
-        snapshots = in_step.bare.snapshots;
         views = in_step.bare.views;
       };
+      snaps = ap (λ x. x.snaps) writes.seats
+          ∙ snaps_stay sort (with_seats (put_seat t (seats_in sort c))) c ∙ in_step.snaps;
       derived = subst (λ l. AreDerived l w.nodes w.arcs attributes.rows) (sym looks) derived;
     }
 
@@ -256,8 +268,8 @@ module _ {O : Type 0} (watch : O → Watched) (w : World O) (sort : ItemSort) (o
       let guards = guards_agree look then w.guards.rows
       (guards_hold w (Agrees look then) agree.tables) in
       let g = w.graph.graph.graph in
-      let snapshots = subst (λ table. looked (snapshot_seen g then) table
-      ≡ looked (snapshot_seen g look) table) (sym in_step.bare.snapshots) refl in
+      let snapshots = snapshots_agree look then g w.snapshots.rows
+      (halves_hold w (Agrees look then) agree.tables) in
       (λ i. world_seen g (looks i) (kinds_of watch w.pool.items) later)
       ∙ (λ i. record (plain_of watch w) {
         nodes = record { labels = node_labels i; maps = node_maps i };

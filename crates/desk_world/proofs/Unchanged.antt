@@ -71,9 +71,9 @@ module _ {O : Type 0} (watch : O → Watched) (w : World O) (a : AlterOf O)
         in_step.seated;
     boxes = in_step.boxes;
     bare = record {
-      snapshots = in_step.bare.snapshots;
       views = in_step.bare.views;
     };
+    snaps = same.chains.snaps ∙ in_step.snaps;
     derived = subst (λ look. AreDerived look w.nodes w.arcs w.attributes.rows)
         (sym (look_still c d same.chains)) in_step.derived;
   }

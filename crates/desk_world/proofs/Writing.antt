@@ -4,6 +4,7 @@ use Rattle.std.proofs.Common.{ap}
 use Rattle.std.proofs.Common.{subst, Some, ◌∙◌}
 use Rattle.std.specs.Prelude.{IsTrue}
 use Rattle.std.specs.FinMap as fin
+use Rattle.std.specs.List.{flat_map}
 use Rattle.std.specs.Option.{option_map_or}
 use Rattle.base_items.specs.declared.items.ItemSort.{ItemSort}
 use Rattle.base_items.specs.declared.items.ItemSort.TheVariants as sorts
@@ -13,6 +14,9 @@ use Rattle.plain_digraph.specs.Rising.{swapped}
 use Rattle.observe_core.specs.Held.{Held, Values, Labels, OfValues, making_of, entry_id}
 use Rattle.observe_core.specs.Items.{has_id}
 use Rattle.observe_core.specs.Seen.{Seen, Watched}
+use Rattle.notify_chain.specs.Seats.{SeatSeen, seat_from, put_seat}
+use Rattle.alter_graph.specs.Attaching.{with_seats}
+use Rattle.alter_graph.specs.Chains.{ChainsSeen, chains_seen, seats_in}
 use Rattle.notify_chain.specs.Seats.{SeatSeen, seat_from}
 use Rattle.alter_graph.specs.Chains.{ChainsSeen, chains_seen}
 use Rattle.alter_graph.specs.Lending.{Writes, Rewrites, MayWrite, graph_with}
@@ -23,6 +27,7 @@ use Rattle.desk_seats.specs.Contents.{labels_in, among, labels_among, holding, S
 use Rattle.desk_world.specs.declared.world.World.{World}
 use Rattle.desk_world.specs.Claims as claims
 use Rattle.desk_world.specs.Claims.{Claim, Role, Plays, claims_of, map_claim, guard_claim}
+use Rattle.desk_world.specs.Claims.{snap_claims}
 use Rattle.desk_world.specs.Columns.{labelled}
 use Rattle.desk_world.specs.Derived.{AreDerived}
 use Rattle.desk_world.specs.InStep.{AreInStep, AreSeated}
@@ -32,8 +37,9 @@ use Rattle.desk_world.proofs.Columns.{labels_swapped}
 use Rattle.desk_world.proofs.Derived.{derived_agrees}
 use Rattle.desk_world.proofs.Labelled.{HasLabels}
 use Rattle.desk_world.proofs.Relabelled.{one_label, maps_elsewhere, labels_elsewhere, Agrees}
-use Rattle.desk_world.proofs.Relabelled.{guards_elsewhere, ties_elsewhere}
+use Rattle.desk_world.proofs.Relabelled.{guards_elsewhere, ties_elsewhere, halves_elsewhere}
 use Rattle.desk_world.proofs.Seated.{all_so}
+use Rattle.desk_world.proofs.SnapTables.{snaps_stay}
 use Rattle.desk_world.specs.Entries.{labels_at}
 use Rattle.desk_world.proofs.Written.{reseated, look_put, look_elsewhere, look_kept, seats_stay}
 use Rattle.desk_world.proofs.Written.{rewrites, no_half, IsElsewhere}
@@ -102,7 +108,7 @@ module _ {O : Type 0} (watch : O → Watched) (w : World O) (sort : ItemSort) (o
       → plain_of watch later ≡ labelled_world (plain_of watch w) sort id name
   plain_now id name put =
       (λ i. world_seen w.graph.graph.graph (looks i) (kinds_of watch w.pool.items) w)
-      ∙ one_label w in_step.bare w.graph.graph.graph (look_of watch w) (look_in (reseated sort t c))
+      ∙ one_label w w.graph.graph.graph (look_of watch w) (look_in (reseated sort t c))
       (kinds_of watch w.pool.items) sort id name
       (ap labels_seen (look_put sort t (watch old).seen c has.seen) ∙ put
       ∙ ap (λ o. fin.insert (labels_seen o) id name) (sym has.seen))
@@ -113,6 +119,9 @@ module _ {O : Type 0} (watch : O → Watched) (w : World O) (sort : ItemSort) (o
       (all_so (IsElsewhere sort key) (Agrees (look_of watch w) (look_in (reseated sort t c)))
       agree (map guard_claim w.guards.rows)
       (guards_elsewhere w in_step.seated.claims_differ sort))
+      (all_so (IsElsewhere sort key) (Agrees (look_of watch w) (look_in (reseated sort t c)))
+      agree (flat_map snap_claims w.snapshots.rows)
+      (halves_elsewhere w in_step.seated.claims_differ sort))
 
   pub written_in_step : AreInStep watch later
   written_in_step = record {
@@ -123,9 +132,10 @@ module _ {O : Type 0} (watch : O → Watched) (w : World O) (sort : ItemSort) (o
         same_role (ap (λ s. claims.is_map s.kind) wrote) in_step.seated);
     boxes = in_step.boxes;
     bare = record {
-      snapshots = in_step.bare.snapshots;
       views = in_step.bare.views;
     };
+    snaps = ap (λ x. x.snaps) (chains_now sort) ∙ snaps_stay sort
+        (with_seats (put_seat t (seats_in sort c))) c ∙ in_step.snaps;
     derived = subst (λ look. AreDerived look w.nodes w.arcs w.attributes.rows) (sym looks)
         (derived_agrees (look_of watch w) (look_in (reseated sort t c)) w.nodes w.arcs
         w.attributes.rows (ties_agree sorts.Node) (ties_agree sorts.Arc) (maps_agree sorts.Node)

@@ -73,9 +73,8 @@ has_values maps.Texts = true
 has_values (maps.Degrees way) = false
 has_values (maps.Trues map) = false
 
--- no command that is run yet makes a snapshot or a view
+-- no command that is run yet makes a view
 pub record IsBare {O : Type 0} (w : World O) : Type 0 where
-  pub snapshots : w.snapshots.rows ≡ []
   pub views : w.views.rows ≡ []
 
 module _ {O : Type 0} (watch : O → Watched) where
@@ -91,6 +90,7 @@ module _ {O : Type 0} (watch : O → Watched) where
     pub seated : AreSeated (claims_of w) (chains_seen watch w.graph.chains)
     pub boxes : AreBoxes w.pool.items
     pub bare : IsBare w
+    pub snaps : (chains_seen watch w.graph.chains).snaps ≡ map (λ e. e.value) w.snapshots.rows
     pub derived : AreDerived (look_of watch w) w.nodes w.arcs w.attributes.rows
 
   -- besides, the plain world is valid

@@ -1,5 +1,5 @@
 -- A world whose digraph was altered, before the guards that left go out of its table.
-use Rattle.std.specs.Prelude.{◌≡◌, Bool, ◌||◌, is_some, List, [], filter}
+use Rattle.std.specs.Prelude.{◌≡◌, Bool, ◌||◌, is_some, List, [], filter, map}
 use Rattle.base_items.specs.declared.items.ItemSort.{ItemSort}
 use Rattle.observe_core.specs.Seen.{Watched}
 use Rattle.alter_graph.specs.Chains.{ChainSeen, ChainsSeen, chain_in, chains_seen}
@@ -35,6 +35,7 @@ module _ {O : Type 0} (watch : O → Watched) where
         (with_none_left (chains_seen watch w.graph.chains))
     pub boxes : AreBoxes watch w.pool.items
     pub bare : IsBare w
+    pub snaps : (chains_seen watch w.graph.chains).snaps ≡ map (λ e. e.value) w.snapshots.rows
     pub derived : AreDerived (look_of watch w) w.nodes w.arcs w.attributes.rows
     -- where no key of a guard that left is to be taken, none has
     pub all_there : ((sort : ItemSort)

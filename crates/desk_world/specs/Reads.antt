@@ -53,11 +53,6 @@ abbrev pub is_index : MapKind → Bool
 is_index (maps.Trues map) = true
 is_index _ = false
 
--- whether a map of the kind is an index of the map of the name
-abbrev pub is_index_of : Name → MapKind → Bool
-is_index_of name (maps.Trues map) = bytes_eq map name
-is_index_of name _ = false
-
 -- ---- who reads a map
 
 -- whether a filter is there and is the map of the name

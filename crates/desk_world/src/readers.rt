@@ -8,7 +8,8 @@ ghost use Rattle.plain_world.specs.Views.{reads};
 ghost use Rattle.desk_world.specs.Plain.{plain_of, tables_of};
 ghost use Rattle.desk_world.specs.InStep.{IsInStep};
 ghost use Rattle.desk_world.specs.Faults.{Meets};
-ghost use Rattle.desk_world.specs.Reads.{is_index_of, names_map};
+ghost use Rattle.desk_world.specs.Indexes.{is_index_kind};
+ghost use Rattle.desk_world.specs.Reads.{names_map};
 
 use crate::refusals::in_use;
 use crate::tables::MapKind;
@@ -23,7 +24,7 @@ use token_text::Text;
 
 // Whether a map of this kind is an index of the map of the name.
 fn is_index_of(kind: &MapKind, name: &Text) -> bool
-    ensures { result ≡ is_index_of name.now kind.now }
+    ensures { result ≡ is_index_kind name.now kind.now }
 {
     match kind {
         MapKind::Trues(map) => map == name,
@@ -100,7 +101,7 @@ impl<B: Observer> World<Seat<B>> {
 
     // The oldest index of the map. None where there is none.
     fn index_of(&self, sort: ItemSort, map: &Text) -> Option<&Text>
-        ensures { option_copied result ≡ oldest (λ row. is_index_of map.now row.kind)
+        ensures { option_copied result ≡ oldest (λ row. is_index_kind map.now row.kind)
             (tables_of self.now sort).maps.rows }
     {
         let maps = &self.tables(sort).maps;

@@ -71,6 +71,16 @@ pub fn same_node(alloc: Global, name: &Text) -> StepFault
     }
 }
 
+/// The snapshot isn't valid any more.
+pub fn stale(alloc: Global, snapshot: &Text) -> StepFault
+    ensures { Is (Some (faults.Stale snapshot.now)) result }
+{
+    match copy_text(alloc, snapshot.as_bytes()) {
+        Ok(name) => StepFault::Refused(Fault::Stale(name)),
+        Err(_) => StepFault::Memory,
+    }
+}
+
 /// A guard vetoes.
 pub fn vetoed(alloc: Global, guard: &Text) -> StepFault
     ensures { Is (Some (faults.Vetoed guard.now)) result }

@@ -24,29 +24,15 @@ use crate::seat_writes::write_to;
 use crate::tables::MapRow;
 use crate::values::{Value, read_value};
 use crate::world::World;
-use alter_graph::Alterable;
-use base_items::{Fact, ItemSort};
+use alter_graph::{Alterable, all_facts};
+use base_items::ItemSort;
 use desk_seats::Seat;
-use list_digraph::ListDigraph;
 use notify_chain::SeatKey;
 use observe_core::Observer;
 use report_text::{Reply, StepFault};
 use script_words::MapType;
 use std::alloc::{AllocError, Global};
 use token_text::Text;
-
-// What is told of all live items of a sort, by rising id.
-fn all_facts(alloc: Global, graph: &ListDigraph, sort: ItemSort) -> Result<Vec<Fact>, AllocError>
-    ensures { IfOk result (λ all. all.items ≡ facts graph.now.graph sort) }
-{
-    let mut all = Vec::new(alloc);
-    for id in 0..graph.used(sort) {
-        if let Some(fact) = graph.fact(sort, id) {
-            all.push(fact)?;
-        }
-    }
-    Ok(all)
-}
 
 // Puts another observer into a seat.
 fn reseat<O: Observer>(graph: &mut Alterable<O>, sort: ItemSort, key: SeatKey, now: O)
@@ -133,7 +119,7 @@ impl<B: Observer> World<Seat<B>> {
             IfOk result (λ seat. held_by (kind_for kind)
             (⟦<Seat<B> as Observer>⟧.watch seat).seen.held ≡ new_map world sort kind) }
     {
-        let all = all_facts(alloc, self.graph.graph(), sort)?;
+        let all = all_facts(self.graph.graph(), sort, alloc)?;
         let mut seat = empty_map(alloc, kind);
         match seat.build(all.as_slice()) {
             Ok(()) => Ok(seat),

@@ -11,6 +11,7 @@ mod no_graphs;
 mod own_box;
 mod saves;
 mod scripts;
+mod snapshots;
 
 use crate::pool::serve_with_boxes;
 use edge_io::{MemShelf, MemSink};

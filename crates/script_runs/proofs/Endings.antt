@@ -191,6 +191,13 @@ does_save world later (commands.Guard guard sort kind limit) name bytes built do
 does_save world later (commands.Unguard guard) name bytes built does =
     absurd (let e = does.0 in cc)
 does_save world later commands.Guards name bytes built does = absurd (let e = does.0 in cc)
+does_save world later (commands.Snap snapshot) name bytes built does =
+    absurd (let e = does.0 in cc)
+does_save world later (commands.Restore snapshot) name bytes built does =
+    absurd (let e = does.0 in cc)
+does_save world later (commands.Forget snapshot) name bytes built does =
+    absurd (let e = does.0 in cc)
+does_save world later commands.Snaps name bytes built does = absurd (let e = does.0 in cc)
 does_save world later (commands.Nodes view) name bytes built does = absurd (let e = does.0 in cc)
 does_save world later (commands.Arcs view) name bytes built does = absurd (let e = does.0 in cc)
 does_save world later (commands.Tie attribute sort) name bytes built does =

@@ -5,7 +5,7 @@ use Rattle.plain_world.specs.Tables.{Named, under}
 use Rattle.desk_world.specs.declared.tables.ItemTables.{ItemTables}
 use Rattle.desk_world.specs.declared.tables.MapRow.{MapRow}
 use Rattle.desk_world.specs.Plain.{tables_of}
-use Rattle.desk_world.specs.Reads.{is_index_of}
+use Rattle.desk_world.specs.Indexes.{is_index_kind}
 use Rattle.desk_world.proofs.TableRows.{found_at, none_more, row_at, some_row}
 use Rattle.desk_world.proofs.readers.World+Seat+B.index_of.Goals as goal
 
@@ -21,7 +21,7 @@ returns-then-is_index_of g c =
     c.tables.ensures c.value.ensures in
     let at = row_at rows place c.name.result.now c.value.result.now named valued in
     sym (ap (option_map (λ (e : Named MapRow). e.name))
-    (found_at (λ (e : Named MapRow). is_index_of c.args.map.now e.value.kind) rows place
+    (found_at (λ (e : Named MapRow). is_index_kind c.args.map.now e.value.kind) rows place
     (under c.name.result.now c.value.result.now) at
     (sym c.is_index_of.ensures ∙ c.if-is_index_of.true) c.loop-place.invariant))
 
@@ -33,9 +33,9 @@ loop-place-preserved g c =
     slice_get (map (λ (e : Named MapRow). e.value) t.maps.rows) place ≡ Some c.value.result.now)
     c.tables.ensures c.value.ensures in
     let row = some_row rows place c.value.result.now valued in
-    none_more (λ (e : Named MapRow). is_index_of c.args.map.now e.value.kind) rows place
+    none_more (λ (e : Named MapRow). is_index_kind c.args.map.now e.value.kind) rows place
     row.0 row.1
-    (ap (λ (r : MapRow). is_index_of c.args.map.now r.kind) row.2
+    (ap (λ (r : MapRow). is_index_kind c.args.map.now r.kind) row.2
     ∙ sym c.is_index_of.ensures ∙ c.if-is_index_of.false)
     c.loop-place.invariant
 
@@ -46,6 +46,6 @@ returns g c =
     c.tables.ensures c.len-place-end.ensures in
     let l = c.loop-place-test.false in
     sym (ap (option_map (λ (e : Named MapRow). e.name))
-    (ap (find (λ (e : Named MapRow). is_index_of c.args.map.now e.value.kind))
+    (ap (find (λ (e : Named MapRow). is_index_kind c.args.map.now e.value.kind))
     (sym (take_all c.loop-place.place rows (omega (arith, size, l))))
     ∙ c.loop-place.invariant))

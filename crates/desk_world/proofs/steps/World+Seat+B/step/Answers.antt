@@ -412,6 +412,66 @@ returns-in-Guards g c =
       stamps = same_stamps _ _ refl;
     }
 
+pub returns-in-Snap : goal.returns-in-Snap
+returns-in-Snap g c =
+    let w = (watch-value g.row.B g.B.Observer g.B.Observer-dict g.B.Destruct-dict).it in
+    let old = plain_of w c.args.self.now in
+    let new = plain_of w c.snap.new.self in
+    let asked = commands.Snap c.in-Snap.name in
+    record {
+      answered = answered_by old new c.args.command.now asked c.in-Snap.is c.snap.result
+          c.snap.ensures.step;
+      refused = refused_by old new c.args.command.now asked c.in-Snap.is c.snap.result
+          c.snap.ensures.step;
+      in_step = c.snap.ensures.in_step;
+      stamps = c.snap.ensures.stamps;
+    }
+
+pub returns-in-Restore : goal.returns-in-Restore
+returns-in-Restore g c =
+    let w = (watch-value g.row.B g.B.Observer g.B.Observer-dict g.B.Destruct-dict).it in
+    let old = plain_of w c.args.self.now in
+    let new = plain_of w c.restore.new.self in
+    let asked = commands.Restore c.in-Restore.name in
+    record {
+      answered = answered_by old new c.args.command.now asked c.in-Restore.is c.restore.result
+          c.restore.ensures.step;
+      refused = refused_by old new c.args.command.now asked c.in-Restore.is c.restore.result
+          c.restore.ensures.step;
+      in_step = c.restore.ensures.in_step;
+      stamps = c.restore.ensures.stamps;
+    }
+
+pub returns-in-Forget : goal.returns-in-Forget
+returns-in-Forget g c =
+    let w = (watch-value g.row.B g.B.Observer g.B.Observer-dict g.B.Destruct-dict).it in
+    let old = plain_of w c.args.self.now in
+    let new = plain_of w c.forget.new.self in
+    let asked = commands.Forget c.in-Forget.name in
+    record {
+      answered = answered_by old new c.args.command.now asked c.in-Forget.is c.forget.result
+          c.forget.ensures.step;
+      refused = refused_by old new c.args.command.now asked c.in-Forget.is c.forget.result
+          c.forget.ensures.step;
+      in_step = c.forget.ensures.in_step;
+      stamps = c.forget.ensures.stamps;
+    }
+
+pub returns-in-Snaps : goal.returns-in-Snaps
+returns-in-Snaps g c =
+    let w = (watch-value g.row.B g.B.Observer g.B.Observer-dict g.B.Destruct-dict).it in
+    let old = plain_of w c.args.self.now in
+    let new = plain_of w c.args.self.now in
+    let asked = commands.Snaps in
+    record {
+      answered = answered_by old new c.args.command.now asked c.in-Snaps.is c.snaps.result
+          c.snaps.ensures;
+      refused = refused_by old new c.args.command.now asked c.in-Snaps.is c.snaps.result
+          c.snaps.ensures;
+      in_step = c.requires.in_step;
+      stamps = same_stamps _ _ refl;
+    }
+
 pub returns-in-Nodes : goal.returns-in-Nodes
 returns-in-Nodes g c =
     let w = (watch-value g.row.B g.B.Observer g.B.Observer-dict g.B.Destruct-dict).it in
