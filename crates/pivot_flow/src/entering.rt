@@ -64,6 +64,7 @@ fn gain_of(ends: &[Ends], cap: &[u64], cost: &[i64], flow: &[u64], price: &[i64]
 }
 
 /// The arc that saves most of those from `start` to below `end`; it saves 0 where none may enter.
+#[inline(never)]
 fn best_of(
     ends: &[Ends],
     cap: &[u64],

@@ -50,6 +50,7 @@ fn link(first: &mut [u32], next: &mut [u32], prev: &mut [u32], parent: &mut [u32
 }
 
 /// Hangs the part below x on again: at `inner`, under `outer`, by the arc `entering`.
+#[inline(never)]
 pub fn hang(
     ends: &[Ends],
     first: &mut [u32],

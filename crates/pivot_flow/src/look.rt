@@ -35,11 +35,9 @@ fn room_to(ends: &[Ends], cap: &[u64], flow: &[u64], k: u32, v: u32) -> u64
     ensures { result ≡ room_to (graph_of 0 ends.now) (at cap.now) (at flow.now) k v }
 {
     let k = k as usize;
-    if ends[k].from == v {
-        flow[k]
-    } else {
-        cap[k] - flow[k]
-    }
+    let sent = flow[k];
+    let left = cap[k] - sent;
+    if ends[k].from == v { sent } else { left }
 }
 
 /// What can be sent away from v over the arc k, whose end it is.
@@ -50,15 +48,14 @@ fn room_from(ends: &[Ends], cap: &[u64], flow: &[u64], k: u32, v: u32) -> u64
     ensures { result ≡ room_from (graph_of 0 ends.now) (at cap.now) (at flow.now) k v }
 {
     let k = k as usize;
-    if ends[k].from == v {
-        cap[k] - flow[k]
-    } else {
-        flow[k]
-    }
+    let sent = flow[k];
+    let left = cap[k] - sent;
+    if ends[k].from == v { left } else { sent }
 }
 
 /// The arc that leaves the tree when an arc from i to j with some room enters, and what is sent
 /// round then.
+#[inline(never)]
 pub fn look(
     ends: &[Ends],
     cap: &[u64],

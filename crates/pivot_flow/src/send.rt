@@ -44,6 +44,7 @@ fn send_from(ends: &[Ends], cap: &[u64], flow: &mut [u64], k: u32, v: u32, step:
 }
 
 /// Sends `step` along the tree from the apex down to i, and from j up to the apex.
+#[inline(never)]
 pub fn send(
     ends: &[Ends],
     cap: &[u64],

@@ -30,6 +30,7 @@ fn queued(queue: &mut [u32], tail: usize, w: u32, root: u32) -> usize
 }
 
 /// Sets the depths below `inner`, and changes the potentials there by `by`; `queue` is overwritten.
+#[inline(never)]
 pub fn spread(
     first: &[u32],
     next: &[u32],
