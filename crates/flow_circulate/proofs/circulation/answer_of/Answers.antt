@@ -40,8 +40,8 @@ returns-in-Some c =
     ∙ ap (λ (n : ℕ). map (λ h. eqb h n) heights) count) in
     let nodes = c.barrier_of-barrier.ensures.nodes ∙ side in
     let some = some_found g.nodes ended.excess.items c.deref.result.now c.deref.ensures.value
-    (excess_long g plan ended run) c.first_positive.result c.first_positive.ensures c.in-Some._left
-    c.in-Some.is in
+    (excess_long g plan ended run) c.first_positive.result c.first_positive.ensures.found
+    c.in-Some._left c.in-Some.is in
     let inside = some.0 in
     λ bounds task.
     (let set = ap (at false) nodes ∙ top_side g.nodes heights (omega (arith, inside)) in
@@ -74,10 +74,10 @@ returns-in-Some-first_positive c =
     ∙ (c.from_vec-set.ensures
     ∙ (c.in_ok-all.ensures.items_if_clones_equal (λ y e. e) ∙ ap (λ n. replicate n true) count)) in
     let none = none_found g.nodes ended.excess.items c.deref.result.now c.deref.ensures.value
-    (excess_long g plan ended run) c.first_positive.result c.first_positive.ensures
+    (excess_long g plan ended run) c.first_positive.result c.first_positive.ensures.found
     c.in_default.not-Some in
     let some = some_found g.nodes ended.want.items c.deref-2.result.now c.deref-2.ensures.value
-    (want_long g plan ended run) c.first_positive-2.result c.first_positive-2.ensures
+    (want_long g plan ended run) c.first_positive-2.result c.first_positive-2.ensures.found
     c.in-Some-first_positive._wanted c.in-Some-first_positive.is in
     λ bounds task.
     (let shown = is_under g bounds plan ended c.requires.ready task run b told
@@ -116,10 +116,10 @@ returns c =
     c.in_ok-flow.ensures in
     let no_excess = none_found g.nodes ended.excess.items c.deref.result.now
     c.deref.ensures.value (excess_long g plan ended run) c.first_positive.result
-    c.first_positive.ensures c.in_default.not-Some in
+    c.first_positive.ensures.found c.in_default.not-Some in
     let no_want = none_found g.nodes ended.want.items c.deref-2.result.now
     c.deref-2.ensures.value (want_long g plan ended run) c.first_positive-2.result
-    c.first_positive-2.ensures c.in_default-first_positive.not-Some in
+    c.first_positive-2.ensures.found c.in_default-first_positive.not-Some in
     λ bounds task.
     rw c.from_vec.ensures (
       flows.all,

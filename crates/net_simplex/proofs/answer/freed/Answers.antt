@@ -23,13 +23,13 @@ pub barred-requires-clause-node : goal.barred-requires-clause-node
 barred-requires-clause-node c =
     (short_found (graph_of c.args.g.now) c.arc_count.result c.args.solved.now.flow.sent.items
     c.deref.result.now c.first_positive.result c.in-Some.v c.in-Some.is c.arc_count.ensures.count
-    c.deref.ensures.value c.requires.all c.first_positive.ensures).0
+    c.deref.ensures.value c.requires.all c.first_positive.ensures.found).0
 
 pub barred-requires-clause-short : goal.barred-requires-clause-short
 barred-requires-clause-short c =
     (short_found (graph_of c.args.g.now) c.arc_count.result c.args.solved.now.flow.sent.items
     c.deref.result.now c.first_positive.result c.in-Some.v c.in-Some.is c.arc_count.ensures.count
-    c.deref.ensures.value c.requires.all c.first_positive.ensures).1
+    c.deref.ensures.value c.requires.all c.first_positive.ensures.found).1
 
 pub returns-in-Some : goal.returns-in-Some
 returns-in-Some c = λ bounds weights task weighed solved.
@@ -88,7 +88,7 @@ returns c =
     } in
     let none = short_none g c.arc_count.result run.flow.sent.items c.deref.result.now
     c.first_positive.result c.in_default.not-Some c.arc_count.ensures.count c.deref.ensures.value
-    c.requires.all c.first_positive.ensures in
+    c.requires.all c.first_positive.ensures.found in
     let flows = rw (c.deref-2.ensures.value, c.deref-3.ensures.value, ready.lower.all) at
     c.in_ok-flow.ensures in
     let feasible = is_feasible g bounds (at (pos 0) plan.excess.items) t (at (pos 0) weights) h
