@@ -54,7 +54,10 @@ const SCRIPTS: [Row<'static>; 13] = [
         name: "commands that the program doesn't run",
         files: &[
             (b"g", TWO),
-            (b"s", b"snaps\n  snaps\n\t\"snap\" s\nnodes base\n"),
+            (
+                b"s",
+                b"meancycle base m\n  meancycle base m\n\t\"meancycle\" base m\nnodes base\n",
+            ),
         ],
         report: b"! 1 1 BadLine 1\n! 2 1 BadLine 3\n! 3 1 BadLine 2\nn 1 b\nn 0 a\nnodes 2\n",
         status: Status::SomeRefused,
