@@ -1,6 +1,6 @@
 -- Two runs of the engine show a largest pairing: one from left nodes to the others, and one that
 -- brings back what is stuck.
-use Rattle.std.proofs.Common.{◌≡◌, ◌≢◌, ◌⊎◌, inl, inr, ℕ, zero, suc, ◌+◌, ◌-◌, ◌<◌, ◌≤◌, ◌^◌}
+use Rattle.std.proofs.Common.{◌≡◌, ◌≢◌, ◌⊎◌, inl, inr, ℕ, zero, suc, ◌<◌, ◌≤◌}
 use Rattle.std.proofs.Common.{Bool, true, false, ◌&&◌, ◌||◌, not, cond, eqb, ℤ, pos, negsuc, neg_ℤ}
 use Rattle.std.proofs.Common.{◌+ℤ◌, ◌-ℤ◌, ◌*ℤ◌, ◌≤ℤ◌, ◌<ℤ◌, refl, sym, ◌∙◌, ap, arith}
 use Rattle.std.proofs.Math.IntN.{zero-*ℤ}
@@ -12,9 +12,9 @@ use Rattle.plain_certificates.proofs.Sums.{sum_to-le, sum_to-same, sum_to-zero}
 use Rattle.plain_certificates.proofs.Tables.{self_eqb, apart_eqb}
 use Rattle.plain_certificates.proofs.Weights.{at_end, weighed}
 use Rattle.plain_certificates.specs.Cuts.{leaves}
-use Rattle.plain_certificates.specs.Numbered.{Numbered, EndsAreNodes, net, sum_to, sum_where}
+use Rattle.plain_certificates.specs.Numbered.{Numbered, EndsAreNodes, net, sum_to}
 use Rattle.plain_certificates.specs.Numbered.{count_where}
-use Rattle.plain_certificates.specs.Pairings.{AreLeft, IsPairing, ShareNoNode, is_neighbour, meets}
+use Rattle.plain_certificates.specs.Pairings.{IsPairing, ShareNoNode, is_neighbour, meets}
 use Rattle.plain_certificates.specs.Pairings.{pairs_at}
 use Rattle.plain_certificates.specs.Rooms.{as_flow, room_from}
 use Rattle.push_flow.proofs.Cut.{both_sides}

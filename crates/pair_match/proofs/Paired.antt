@@ -1,7 +1,7 @@
 -- The lists of an answer, read from the two runs.
 use Rattle.std.proofs.Common.{◌≡◌, inl, inr, ℕ, zero, suc, ◌+◌, ◌-◌, ◌<◌, ◌≤◌, ◌^◌, Bool, true}
 use Rattle.std.proofs.Common.{false, ◌&&◌, not}
-use Rattle.std.proofs.Common.{cond, eqb, ℤ, pos, negsuc, ◌+ℤ◌, ◌-ℤ◌, List, [], ◌∷◌, ◌++◌, length}
+use Rattle.std.proofs.Common.{cond, eqb, pos, negsuc, ◌+ℤ◌, ◌-ℤ◌, List, [], ◌∷◌, ◌++◌, length}
 use Rattle.std.proofs.Common.{map, filter, get_or, replicate, refl, sym, ◌∙◌, ap, subst, arith}
 use Rattle.std.specs.List.{range_with_len}
 use Rattle.std.proofs.lemmas.Int.{ints}
@@ -20,7 +20,7 @@ use Rattle.plain_certificates.specs.Tables.{at}
 use Rattle.plain_certificates.specs.Totals.{total_to}
 use Rattle.push_flow.specs.declared.push.Ends.{Ends}
 use Rattle.push_flow.specs.declared.push.Spoke.{Spoke}
-use Rattle.push_flow.specs.Held.{Supply, Task, most}
+use Rattle.push_flow.specs.Held.{Task, most}
 use Rattle.flow_rows.specs.Network.{IsNetwork}
 use Rattle.flow_loads.proofs.Loading.{fresh_loaded}
 use Rattle.flow_loads.specs.declared.loads.Load.{Load}

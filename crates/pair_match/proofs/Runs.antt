@@ -1,6 +1,6 @@
 -- The two runs one after the other, as the call makes them.
 use Rattle.std.proofs.Common.{◌≡◌, ℕ, ◌≤◌, ◌^◌, ◌&&◌, Bool, not, cond, eqb, List, length, map}
-use Rattle.std.proofs.Common.{filter, replicate, sym, ◌∙◌, ap, subst, arith}
+use Rattle.std.proofs.Common.{filter, replicate, sym, ◌∙◌, ap, subst}
 use Rattle.std.specs.List.{range_with_len}
 use Rattle.std.proofs.lemmas.List.{length-map}
 use Rattle.plain_certificates.specs.Numbered.{Numbered, EndsAreNodes}

@@ -1,4 +1,4 @@
-use Rattle.std.proofs.Common.{◌≡◌, length, get_or, map, ◌∙◌, ap}
+use Rattle.std.proofs.Common.{length, map, ◌∙◌, ap}
 use Rattle.std.proofs.lemmas.List.{get_or-map, length-map}
 use Rattle.push_flow.specs.Slices.{ends_at}
 use Rattle.pair_match.specs.Facing.{flags, turned_ends}

@@ -1,10 +1,9 @@
-use Rattle.std.proofs.Common.{◌≡◌, ◌<◌, ◌≤◌, ◌^◌, ◌∙◌, ◌&&◌, ℕ, List, length, map, filter, not, eqb}
-use Rattle.std.proofs.Common.{sym, ap, subst, arith}
+use Rattle.std.proofs.Common.{◌∙◌, ◌&&◌, length, map, filter, not, eqb}
+use Rattle.std.proofs.Common.{ap, arith}
 use Rattle.std.specs.List.{range_with_len}
 use Rattle.plain_certificates.specs.Tables.{at}
 use Rattle.static_digraph.specs.Fixed.{graph_of}
 use Rattle.pair_match.proofs.Runs.{first_run, flow_long, second_run, sent_excess, sent_height, told}
-use Rattle.pair_match.specs.Answers.{IsAnswer}
 use Rattle.pair_match.specs.Facing.{flags}
 use Rattle.pair_match.proofs.pairing.largest.Goals as goal
 
