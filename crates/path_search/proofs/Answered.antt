@@ -13,7 +13,8 @@ use Rattle.std.proofs.lemmas.List.FromFn.{get_or-map-range_with_len, length-map-
 use Rattle.plain_certificates.specs.Numbered.{Numbered, EndsAreNodes}
 use Rattle.plain_certificates.specs.Tables.{at}
 use Rattle.plain_certificates.specs.Paths.{IsNoFurther, leads_back, IsPaths}
-use Rattle.path_search.specs.Search.{far, IsFound}
+use Rattle.path_search.specs.Search.{IsFound}
+use Rattle.pace_search.specs.Tree.{far}
 use Rattle.path_search.specs.Answers.{dist_in, via_in, Tells, IsAnswer}
 use Rattle.path_search.specs.Lengths.{AreLengths}
 

@@ -8,7 +8,8 @@ use Rattle.std.proofs.lemmas.List.Sorted.{All-permutation, list_any-IsPermutatio
 use Rattle.std.proofs.lemmas.List.Elements.{All-head, All-tail, All-cons, All-weaker}
 use Rattle.plain_certificates.specs.Numbered.{Numbered}
 use Rattle.plain_certificates.specs.Tables.{set_at}
-use Rattle.path_search.specs.Search.{far, queues, IsVia, IsSearch, IsFound}
+use Rattle.path_search.specs.Search.{queues, IsVia, IsSearch, IsFound}
+use Rattle.pace_search.specs.Tree.{far}
 
 -- an entry of a settled node is passed over
 pub skipped : (g : Numbered) (len : ℕ → ℕ) (s : ℕ) (P : ℕ → Type 0) (D V T : ℕ

@@ -5,13 +5,8 @@ pub mod Settling
 pub mod RowsRead
 pub mod Expanding
 pub mod Answered
-pub mod TreeSteps
-pub mod TreeRounds
+pub mod AllAhead
 pub mod TreeFound
-pub mod RoundSteps
 pub mod TreePaths
-pub mod Climbing
-pub mod Climbed
 pub mod RoundsBegun
-pub mod Rounded
 pub mod SignedFound

@@ -1,21 +1,21 @@
 -- Rows that begin and end, and how many nodes are open.
 use Rattle.std.proofs.Common.{◌≡◌, ◌⊎◌, inl, inr, ℕ, zero, suc, ◌+◌, ◌*◌, ◌<◌, ◌≤◌, ◌^◌}
 use Rattle.std.proofs.Common.{true, false, eqb, ◌&&◌, List, [], ◌∷◌, All, length}
-use Rattle.std.proofs.Common.{get_or, refl, sym, ◌∙◌, arith}
+use Rattle.std.proofs.Common.{refl, sym, ◌∙◌, arith}
 use Rattle.std.proofs.Math.ListN.{set, replicate}
 use Rattle.std.specs.Prelude.{IsPermutation}
 use Rattle.std.proofs.lemmas.Bool.Decides.{nat_tests, eqb_tells}
 use Rattle.std.proofs.lemmas.List.{get_or-set_same}
-use Rattle.std.proofs.lemmas.List.Sums.{sum_by-set}
-use Rattle.std.proofs.lemmas.List.Folds.{sum_by-replicate}
 use Rattle.std.proofs.lemmas.List.Elements.{All-nil, All-cons, All-head}
 use Rattle.std.proofs.lemmas.List.Sorted.{All-permutation, list_any-IsPermutation}
 use Rattle.std.proofs.lemmas.Simd.{get_or-replicate, length-replicate}
 use Rattle.plain_certificates.specs.Numbered.{Numbered}
 use Rattle.plain_certificates.specs.Tables.{at, set_at}
 use Rattle.plain_certificates.proofs.Tables.{at-set}
-use Rattle.path_search.specs.Search.{far, IsSearch, IsRow, Done, Settled}
-use Rattle.path_search.specs.Search.{one_if_open, open_count}
+use Rattle.path_search.specs.Search.{IsSearch, IsRow, Done, Settled}
+use Rattle.pace_search.specs.Tree.{far}
+use Rattle.pace_search.specs.Climbs.{open_count}
+use Rattle.pace_search.proofs.Marks.{fewer_open}
 use Rattle.path_search.specs.Steps.{IsLast, IsSearching}
 use Rattle.path_search.proofs.Changes.{skipped, least_is_dist, settle, fewer}
 
@@ -96,17 +96,6 @@ begun g len s n e l =
     low_dist : (v : ℕ) → set_at (at 0 (replicate n far)) s 0 v < far
         → set_at (at 0 (replicate n far)) s 0 v ≤ 0
     low_dist v near = (let a = either n v in grind (arith, nat_tests, a, near))
-
-pub fewer_open : (turns : List ℕ) (u t : ℕ) → u < length turns → at 0 turns u ≡ 0 → 0 < t
-    → open_count (set turns u t) + 1 ≡ open_count turns
-fewer_open turns u t l o p =
-    let a = sum_by-set one_if_open turns u t 0 l in
-    let b : one_if_open t ≡ 0 = grind (arith, nat_tests) in
-    let c : one_if_open (get_or turns u 0) ≡ 1 = rw o refl in
-    omega (arith, a, b, c)
-
-pub all_open : (n : ℕ) → open_count (replicate n 0) ≡ n
-all_open n = let a = sum_by-replicate one_if_open n 0 in omega (arith, a)
 
 -- the queue in another order
 pub reordered : (g : Numbered) (len : ℕ → ℕ) (s : ℕ) (P : ℕ → Type 0) (D V T : ℕ

@@ -1,22 +1,15 @@
 -- Where no arc leads nearer, a tree of last arcs leads back to the start.
 use Rattle.std.proofs.Common.{◌≡◌, ◌≢◌, ◌⊎◌, inl, inr, ℕ, zero, suc, ◌+◌, ◌*◌, ◌<◌, ◌≤◌, ◌^◌, true}
-use Rattle.std.proofs.Common.{cond, Option, Some, ap, subst, arith}
+use Rattle.std.proofs.Common.{cond, Option, Some, ◌∙◌, ap, subst, arith}
 use Rattle.std.specs.Prelude.{nat_lt}
 use Rattle.std.proofs.lemmas.Bool.Decides.{nat_tests, eqb_tells}
 use Rattle.plain_certificates.specs.Numbered.{Numbered, EndsAreNodes}
 use Rattle.plain_certificates.specs.Paths.{leads_back}
 use Rattle.plain_certificates.specs.Totals.{total_to}
 use Rattle.plain_certificates.proofs.Totals.{total-le}
-use Rattle.path_search.specs.Search.{far}
-use Rattle.path_search.specs.Tree.{origin, shift, IsTree, AreRelaxed}
-
-pub leq_or : (a b : ℕ) → (a ≤ b) ⊎ (b < a)
-leq_or zero b = inl (omega arith)
-leq_or (suc a) zero = inr (omega arith)
-leq_or (suc a) (suc b) = elim (leq_or a b) [
-  | inl le ↦ inl (omega (arith, le))
-  | inr lt ↦ inr (omega (arith, lt))
-]
+use Rattle.pace_search.specs.Tree.{far, origin, shift, IsTree, AreRelaxed}
+use Rattle.pace_search.proofs.Marks.{leq_or}
+use Rattle.path_search.specs.Tree.{BeginsAt}
 
 -- how many nodes have an earlier turn
 abbrev one_before : (ℕ → ℕ) → ℕ → ℕ → ℕ
@@ -54,9 +47,19 @@ rank_few (suc n) T t =
     let last : one_before T t n ≤ 1 = grind (arith, nat_tests) in
     omega (arith, below, last)
 
-module _ (g : Numbered) (len : ℕ → ℕ) (s : ℕ) (D V T : ℕ → ℕ) (clock : ℕ)
-    (ends : EndsAreNodes g) (ls : s < g.nodes) (tree : IsTree g len s D V T clock)
-    (relaxed : AreRelaxed g len D) where
+module _ (g : Numbered) (len : ℕ → ℕ) (s : ℕ) (first D V T : ℕ → ℕ) (clock : ℕ)
+    (ends : EndsAreNodes g) (ls : s < g.nodes) (begins : BeginsAt g s first)
+    (tree : IsTree g len first D V T clock) (relaxed : AreRelaxed g len D) where
+  start_near : D s < far
+  start_near = let low = tree.below s in let is = begins.start in omega (arith, low, is)
+
+  -- a node that has a distance and no last arc is the start
+  root : (v : ℕ) → v < g.nodes → D v < far → g.arcs ≤ V v → (v ≡ s) × (D v ≡ origin)
+  root v l near out =
+      let is = tree.root v l near out in
+      let e = begins.others v l (omega (arith, is, near)) in
+      (e, is ∙ (ap first e ∙ begins.start))
+
   -- the arc is tight, and comes from an earlier node
   pub tight : (v : ℕ) → v < g.nodes → D v < far → V v < g.arcs
       → (D v + shift ≡ D (g.from (V v)) + len (V v)) × (T (g.from (V v)) < T v)
@@ -69,11 +72,11 @@ module _ (g : Numbered) (len : ℕ → ℕ) (s : ℕ) (D V T : ℕ → ℕ) (clo
 
   has_root : (n v : ℕ) → T v ≤ n → v < g.nodes → D v < far → g.arcs ≤ V s
   has_root zero v few l near = elim (leq_or g.arcs (V v)) [
-    | inl out ↦ subst (λ x. g.arcs ≤ V x) (tree.root v l near out).0 out
+    | inl out ↦ subst (λ x. g.arcs ≤ V x) (root v l near out).0 out
     | inr q ↦ absurd (let t = (tight v l near q).1 in omega (arith, t, few))
   ]
   has_root (suc n) v few l near = elim (leq_or g.arcs (V v)) [
-    | inl out ↦ subst (λ x. g.arcs ≤ V x) (tree.root v l near out).0 out
+    | inl out ↦ subst (λ x. g.arcs ≤ V x) (root v l near out).0 out
     | inr q ↦
         (let t = (tight v l near q).1 in
         has_root n (g.from (V v)) (omega (arith, t, few)) (ends (V v) q).0
@@ -82,17 +85,17 @@ module _ (g : Numbered) (len : ℕ → ℕ) (s : ℕ) (D V T : ℕ → ℕ) (clo
 
   -- the start has no last arc
   pub start_is_root : g.arcs ≤ V s
-  start_is_root = has_root (T s) s (omega arith) ls tree.start
+  start_is_root = has_root (T s) s (omega arith) ls start_near
 
   pub start_at_origin : D s ≡ origin
-  start_at_origin = (tree.root s ls tree.start start_is_root).1
+  start_at_origin = (root s ls start_near start_is_root).1
 
   -- other nodes have one
   pub has_arc : (v : ℕ) → v < g.nodes → v ≢ s → D v < far → V v < g.arcs
   has_arc v l ne near = either (leq_or g.arcs (V v))
     where
       either : (g.arcs ≤ V v) ⊎ (V v < g.arcs) → V v < g.arcs
-      either (inl out) = absurd (ne (tree.root v l near out).0)
+      either (inl out) = absurd (ne (root v l near out).0)
       either (inr q) = q
 
   -- going back along them leads to the start

@@ -7,10 +7,10 @@ use Rattle.std.proofs.lemmas.Int.{ints}
 use Rattle.std.proofs.lemmas.Bool.Decides.{nat_tests}
 use Rattle.plain_certificates.specs.Numbered.{Numbered, EndsAreNodes}
 use Rattle.plain_certificates.specs.Paths.{IsNoFurther, IsPaths}
-use Rattle.path_search.specs.Search.{far}
+use Rattle.pace_search.specs.Tree.{far, origin, shift, AreRelaxed, IsTree}
 use Rattle.path_search.specs.Answers.{via_in}
 use Rattle.path_search.proofs.Answered.{via_is, via_none}
-use Rattle.path_search.specs.Tree.{origin, shift, signed_in, IsTree, AreRelaxed}
+use Rattle.path_search.specs.Tree.{BeginsAt, signed_in}
 use Rattle.path_search.proofs.TreeFound.{tight, start_at_origin, has_arc}
 use Rattle.path_search.proofs.TreeFound.{leads_to_start, distance_is_high}
 
@@ -53,9 +53,10 @@ further a b z h = either (nat_lt a far) (nat_lt b far) refl refl
         let lt = near.1 in
         grind (arith, nat_tests, at_b, lt))
 
-module _ (g : Numbered) (L : ℕ → ℤ) (len : ℕ → ℕ) (s : ℕ) (D V T : ℕ → ℕ) (clock : ℕ)
+module _ (g : Numbered) (L : ℕ → ℤ) (len : ℕ → ℕ) (s : ℕ) (first D V T : ℕ → ℕ) (clock : ℕ)
     (ends : EndsAreNodes g) (ls : s < g.nodes) (few : g.nodes ≤ 1048576)
-    (tree : IsTree g len s D V T clock) (relaxed : AreRelaxed g len D)
+    (begins : BeginsAt g s first) (tree : IsTree g len first D V T clock)
+    (relaxed : AreRelaxed g len D)
     (short : (k : ℕ) → k < g.arcs → len k ≤ 2 ^ 37)
     (same : (k : ℕ) → k < g.arcs → L k +ℤ pos shift ≡ pos (len k))
     (dists : ℕ → Option ℤ) (vias : ℕ → Option ℕ)
@@ -67,7 +68,7 @@ module _ (g : Numbered) (L : ℕ → ℤ) (len : ℕ → ℕ) (s : ℕ) (D V T :
   pub tree_paths : IsPaths g L s dists vias
   tree_paths = record {
     at_start =
-        (let is = start_at_origin g len s D V T clock ends ls tree relaxed in
+        (let is = start_at_origin g len s first D V T clock ends ls begins tree relaxed in
         dist_at s ls ∙ (ap signed_in is ∙ refl));
     no_further = λ k l.
         (let from = (ends k l).0 in
@@ -75,8 +76,8 @@ module _ (g : Numbered) (L : ℕ → ℤ) (len : ℕ → ℕ) (s : ℕ) (D V T :
         rw (dist_at (g.from k) from, dist_at (g.to k) to)
         (further (D (g.from k)) (D (g.to k)) (L k) (λ near.
         (let le = relaxed k l near in
-        let low = distance_is_high g len s D V T clock ends ls tree relaxed short (g.from k) from
-        near in
+        let low = distance_is_high g len s first D V T clock ends ls begins tree relaxed short
+        (g.from k) from near in
         let is = same k l in
         let least = short k l in
         (omega (arith, ints, le, is), omega (arith, le, low, least, few))))));
@@ -84,9 +85,9 @@ module _ (g : Numbered) (L : ℕ → ℤ) (len : ℕ → ℕ) (s : ℕ) (D V T :
         (let reached = some_signed (D v) d (sym (dist_at v l) ∙ h) in
         let near = reached.0 in
         let is = reached.1 in
-        let q = has_arc g len s D V T clock ends ls tree relaxed v l ne near in
+        let q = has_arc g len s first D V T clock ends ls begins tree relaxed v l ne near in
         let a = tree.via v l near q in
-        let t = (tight g len s D V T clock ends ls tree relaxed v l near q).0 in
+        let t = (tight g len s first D V T clock ends ls begins tree relaxed v l near q).0 in
         let long = same (V v) q in
         let u = g.from (V v) in (
           V v,
@@ -105,5 +106,5 @@ module _ (g : Numbered) (L : ℕ → ℤ) (len : ℕ → ℕ) (s : ℕ) (D V T :
     ]);
     back = λ v d l h.
         (let near = (some_signed (D v) d (sym (dist_at v l) ∙ h)).0 in
-        leads_to_start g len s D V T clock ends ls tree relaxed vias arc_at v l near);
+        leads_to_start g len s first D V T clock ends ls begins tree relaxed vias arc_at v l near);
   }

@@ -5,7 +5,7 @@ use Rattle.std.specs.List.{range_with_len}
 use Rattle.plain_certificates.specs.Numbered.{Numbered}
 use Rattle.plain_certificates.specs.Paths.{IsPaths, IsNegativeCycle}
 use Rattle.plain_certificates.specs.Tables.{at}
-use Rattle.path_search.specs.Search.{far}
+use Rattle.pace_search.specs.Tree.{far}
 use Rattle.path_search.specs.declared.signed_search.Walks.{Walks}
 use Rattle.path_search.specs.declared.signed_search.Walks.TheVariants as walks
 

@@ -4,6 +4,4 @@ pub mod Steps
 pub mod Answers
 pub mod Lengths
 pub mod Tree
-pub mod Rounds
 pub mod Signed
-pub mod Climbs

@@ -1,13 +1,9 @@
 -- The state of a search that settles node after node, the nearest first.
 use Rattle.std.specs.Prelude.{◌≡◌, ◌≢◌, ◌⊎◌, ℕ, ◌+◌, ◌*◌, ◌<◌, ◌≤◌, ◌^◌, Bool, true, ◌==◌, ◌&&◌}
-use Rattle.std.specs.Prelude.{cond, List, All}
-use Rattle.std.specs.Prelude.{sum_by}
+use Rattle.std.specs.Prelude.{List, All}
 use Rattle.std.specs.List.{list_any}
 use Rattle.plain_certificates.specs.Numbered.{Numbered}
-
--- no distance is as high
-abbrev pub far : ℕ
-far = 2 ^ 62
+use Rattle.pace_search.specs.Tree.{far}
 
 -- whether a queue has an entry of the node at this key
 abbrev pub queues : List (ℕ × ℕ) → ℕ → ℕ → Bool
@@ -62,10 +58,3 @@ Done g T u row j = (0 < T (g.from j)) × ((g.from j ≢ u) ⊎ (list_any (λ x. 
 -- the arcs that are relaxed between two rows
 abbrev pub Settled : Numbered → (ℕ → ℕ) → ℕ → Type 0
 Settled g T k = 0 < T (g.from k)
-
-abbrev pub one_if_open : ℕ → ℕ
-one_if_open t = cond (t == 0) 1 0
-
--- how many nodes are not settled
-abbrev pub open_count : List ℕ → ℕ
-open_count turns = sum_by one_if_open turns

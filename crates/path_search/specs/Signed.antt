@@ -1,13 +1,9 @@
--- Lengths and distances with a sign.
-use Rattle.std.specs.Prelude.{◌≡◌, ℕ, ℤ, pos, ◌-ℤ◌, List, length, Option, map}
+-- Distances with a sign.
+use Rattle.std.specs.Prelude.{◌≡◌, ℕ, ℤ, List, length, Option, map}
 use Rattle.std.specs.List.{range_with_len}
 use Rattle.plain_certificates.specs.Tables.{at}
 use Rattle.path_search.specs.Answers.{via_in}
-use Rattle.path_search.specs.Tree.{shift, signed_in}
-
--- the second list has the numbers of the first, each with the shift added
-abbrev pub AreShifted : List ℤ → List ℕ → Type 0
-AreShifted len lens = map (λ l. pos l -ℤ pos shift) lens ≡ len
+use Rattle.path_search.specs.Tree.{signed_in}
 
 -- the lists of the answer
 pub record TellsSigned (dist via : List ℕ) (start : ℕ) (dists : List (Option ℤ))

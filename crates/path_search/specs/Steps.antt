@@ -1,14 +1,8 @@
 -- What going through the arcs from a node does to a search.
-use Rattle.std.specs.Prelude.{◌≡◌, ℕ, ◌+◌, ◌*◌, ◌<◌, ◌≤◌, ◌^◌, List, [], length}
-use Rattle.plain_certificates.specs.Numbered.{Numbered, EndsAreNodes}
-use Rattle.path_search.specs.Search.{far, IsSearch, Done, Settled}
-
--- ends that are nodes, a length for each arc, and a distance and a last arc for each node
-pub record AreSized (g : Numbered) (len dist via : List ℕ) : Type 0 where
-  pub ends : EndsAreNodes g
-  pub lens : length len ≡ g.arcs
-  pub dists : length dist ≡ g.nodes
-  pub vias : length via ≡ g.nodes
+use Rattle.std.specs.Prelude.{◌≡◌, ℕ, ◌+◌, ◌*◌, ◌<◌, ◌≤◌, ◌^◌, List, []}
+use Rattle.plain_certificates.specs.Numbered.{Numbered}
+use Rattle.path_search.specs.Search.{IsSearch, Done, Settled}
+use Rattle.pace_search.specs.Tree.{far}
 
 -- the node was settled last, at this distance
 pub record IsLast (g : Numbered) (len : ℕ → ℕ) (s u near : ℕ) (D V T : ℕ → ℕ) (count reach : ℕ)

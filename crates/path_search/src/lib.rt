@@ -1,12 +1,10 @@
 //! Shortest paths from one node, over numbered digraphs.
 #![tactic(auto)]
 
-mod climbs;
 mod lengths;
 mod nearest;
 mod paths;
 mod queue;
-mod rounds;
 mod signed;
 mod signed_search;
 

@@ -7,13 +7,16 @@ ghost use Rattle.std.specs.BinaryHeap.{heap_items};
 ghost use Rattle.plain_certificates.specs.Tables.{at};
 ghost use Rattle.static_digraph.specs.Fixed.{graph_of};
 ghost use Rattle.path_search.specs.Queue.{entries_of};
-ghost use Rattle.path_search.specs.Search.{IsSearch, IsFound, Settled, open_count};
-ghost use Rattle.path_search.specs.Steps.{AreSized, Expands};
+ghost use Rattle.pace_search.specs.Climbs.{open_count};
+ghost use Rattle.pace_search.specs.Rounds.{AreSized};
+ghost use Rattle.path_search.specs.Search.{IsSearch, IsFound, Settled};
+ghost use Rattle.path_search.specs.Steps.{Expands};
 ghost use Rattle.path_search.specs.Answers.{IsAnswer};
 
 use crate::lengths::unsigned_lengths;
-use crate::paths::{FAR, Paths, paths_of};
+use crate::paths::{Paths, paths_of};
 use crate::queue::Queue;
+use pace_search::FAR;
 use static_digraph::Fixed;
 use std::alloc::{AllocError, Global};
 

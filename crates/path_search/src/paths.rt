@@ -5,6 +5,7 @@ ghost use Rattle.plain_certificates.specs.Tables.{at};
 ghost use Rattle.path_search.specs.Answers.{Tells, dist_in, via_in};
 
 use base_items::List;
+use pace_search::FAR;
 use std::alloc::{AllocError, Global};
 
 /// Of each node its distance from the start, None where no walk leads to it, and the last arc of a
@@ -14,9 +15,6 @@ pub struct Paths {
     pub dist: List<Option<i64>>,
     pub via: List<Option<u32>>,
 }
-
-/// No distance is as high.
-pub const FAR: u64 = 4611686018427387904;
 
 /// The answer that arrays of distances and of last arcs give; a distance of `FAR` is none.
 pub fn paths_of(alloc: Global, dist: &[u64], via: &[u32], s: u32) -> Result<Paths, AllocError>

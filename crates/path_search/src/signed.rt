@@ -1,25 +1,13 @@
-//! Lengths and distances with a sign, and how they are kept without one.
+//! Distances with a sign, and how they are kept without one.
 
-ghost use Rattle.std.specs.Prelude.{◌≡◌, ◌^◌, pos, negsuc, ◌≤ℤ◌, IfOk, All, length};
-ghost use Rattle.path_search.specs.Signed.{AreShifted, TellsSigned};
+ghost use Rattle.std.specs.Prelude.{◌≡◌, IfOk, length};
+ghost use Rattle.path_search.specs.Signed.{TellsSigned};
 ghost use Rattle.path_search.specs.Tree.{signed_in};
 
-use crate::paths::{FAR, Paths, via_of};
+use crate::paths::{Paths, via_of};
 use base_items::List;
+use pace_search::FAR;
 use std::alloc::{AllocError, Global};
-
-/// The same lengths, each with 2^36 added.
-pub fn shifted_lengths(alloc: Global, len: &[i64]) -> Result<Vec<u64>, AllocError>
-    requires low { All (λ l. negsuc 68719476735 ≤ℤ l) len.now }
-    requires high { All (λ l. l ≤ℤ pos (2 ^ 36)) len.now }
-    ensures { IfOk result (λ lens. AreShifted len.now lens.items) }
-{
-    let mut lens = Vec::with_capacity(alloc, len.len())?;
-    for l in len {
-        lens.push((*l + 68719476736) as u64)?;
-    }
-    Ok(lens)
-}
 
 /// The answer that arrays of distances and of last arcs give; a distance of `FAR` is none, and one
 /// of 2^60 is 0.

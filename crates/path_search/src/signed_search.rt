@@ -1,20 +1,18 @@
-//! Shortest paths where lengths may be below 0: rounds over all arcs until nothing changes, with a
-//! look at the last arcs after each, whether they close up.
+//! Shortest paths where lengths may be below 0: a search of paces that all go as their arcs do.
 
 ghost use Rattle.std.specs.Prelude.{◌≡◌, ◌<◌, ◌≤◌, ◌≤ℤ◌, ◌^◌, ℤ, pos, negsuc, All, List, length};
 ghost use Rattle.std.specs.Prelude.{IfOk};
+ghost use Rattle.plain_certificates.specs.Numbered.{EndsAreNodes};
 ghost use Rattle.plain_certificates.specs.Tables.{at};
 ghost use Rattle.static_digraph.specs.Fixed.{graph_of};
+ghost use Rattle.pace_search.specs.Runs.{AreShifted, IsFresh, IsPaced};
 ghost use Rattle.path_search.specs.Answers.{AreWalks};
-ghost use Rattle.path_search.specs.Rounds.{AreWithin, IsState};
-ghost use Rattle.path_search.specs.Signed.{AreShifted};
-ghost use Rattle.path_search.specs.Steps.{AreSized};
+ghost use Rattle.path_search.specs.Tree.{BeginsAt};
 
-use crate::climbs::find_round;
-use crate::paths::{FAR, Paths};
-use crate::rounds::relax_all;
-use crate::signed::{shifted_lengths, signed_paths_of};
+use crate::paths::Paths;
+use crate::signed::signed_paths_of;
 use base_items::List;
+use pace_search::{FAR, settle, shifted_lengths};
 use static_digraph::Fixed;
 use std::alloc::{AllocError, Global};
 
@@ -54,7 +52,7 @@ pub fn bellman(alloc: Global, g: &Fixed, len: &[i64], s: u32) -> Result<Walks, A
     )
 }
 
-/// Relaxes all arcs until nothing changes, or the last arcs close up.
+/// The search over lengths without a sign.
 fn search(
     alloc: Global,
     g: &Fixed,
@@ -63,22 +61,20 @@ fn search(
     dist: &mut [u64],
     via: &mut [u32],
 ) -> Result<Walks, AllocError>
-    requires sizes { AreSized (graph_of g.now) lens.now dist.old via.old }
+    requires all { length lens.now ≡ (graph_of g.now).arcs }
+    requires paced { IsPaced (graph_of g.now) (length lens.now) }
+    requires ends { EndsAreNodes (graph_of g.now) }
+    requires dists { length dist.old ≡ (graph_of g.now).nodes }
+    requires vias { length via.old ≡ (graph_of g.now).nodes }
     requires short { All (λ l. l ≤ 2 ^ 37) lens.now }
-    requires few { (graph_of g.now).nodes ≤ 1048576 }
     requires start { s < (graph_of g.now).nodes }
-    requires within { AreWithin (graph_of g.now).nodes dist.old }
-    requires state { IsState (graph_of g.now) (at 0 lens.now) s dist.old via.old }
+    requires begins { BeginsAt (graph_of g.now) s (at 0 dist.old) }
+    requires fresh { IsFresh (length lens.now) dist.old via.old }
     ensures { IfOk result (λ walks. (len : List ℤ) → AreShifted len lens.now
         → AreWalks (graph_of g.now) len s walks) }
 {
-    'rounds: loop {
-        if !relax_all(g, lens, dist, via) {
-            return Ok(Walks::Paths(signed_paths_of(alloc, dist, via, s)?));
-        }
-        match find_round(alloc, g, dist, via)? {
-            Some(round) => return Ok(Walks::Cycle(round)),
-            None => {}
-        }
+    match settle(alloc, g, lens, dist, via)? {
+        Some(round) => Ok(Walks::Cycle(List::from_vec(round))),
+        None => Ok(Walks::Paths(signed_paths_of(alloc, dist, via, s)?)),
     }
 }

@@ -13,6 +13,8 @@ mod cuts;
 #[cfg(test)]
 mod flows;
 #[cfg(test)]
+mod paces;
+#[cfg(test)]
 mod pairings;
 #[cfg(test)]
 mod paths;

@@ -6,7 +6,8 @@ use Rattle.std.specs.BinaryHeap.{heap_items}
 use Rattle.plain_certificates.specs.Tables.{at}
 use Rattle.static_digraph.specs.Fixed.{graph_of}
 use Rattle.path_search.specs.Queue.{entries_of}
-use Rattle.path_search.specs.Search.{far, IsFound, Settled}
+use Rattle.path_search.specs.Search.{IsFound, Settled}
+use Rattle.pace_search.specs.Tree.{far}
 use Rattle.path_search.proofs.Settling.{begun, reordered}
 use Rattle.path_search.proofs.Answered.{answer, lens_short, if_ok}
 use Rattle.path_search.proofs.nearest.dijkstra.Goals as goal

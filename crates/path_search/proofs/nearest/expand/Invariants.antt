@@ -3,7 +3,8 @@ use Rattle.std.specs.BinaryHeap.{heap_items}
 use Rattle.plain_certificates.specs.Tables.{at}
 use Rattle.static_digraph.specs.Fixed.{graph_of}
 use Rattle.path_search.specs.Queue.{entries_of}
-use Rattle.path_search.specs.Steps.{AreSized, Relaxes}
+use Rattle.pace_search.specs.Rounds.{AreSized}
+use Rattle.path_search.specs.Steps.{Relaxes}
 use Rattle.path_search.proofs.nearest.expand.Given as goal
 
 abbrev pub invariant-loop-arc : goal.invariant-loop-arc

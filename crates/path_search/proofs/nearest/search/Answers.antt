@@ -5,7 +5,8 @@ use Rattle.std.proofs.lemmas.List.Sorted.{length_permutation}
 use Rattle.plain_certificates.specs.Tables.{at}
 use Rattle.static_digraph.specs.Fixed.{graph_of}
 use Rattle.path_search.specs.Search.{IsSearch, Settled}
-use Rattle.path_search.proofs.Settling.{settle_last, skip_entry, entry_node, fewer_open}
+use Rattle.path_search.proofs.Settling.{settle_last, skip_entry, entry_node}
+use Rattle.pace_search.proofs.Marks.{fewer_open}
 use Rattle.path_search.proofs.Changes.{found}
 use Rattle.path_search.proofs.nearest.search.Goals as goal
 

@@ -3,8 +3,9 @@ use Rattle.std.specs.BinaryHeap.{heap_items}
 use Rattle.plain_certificates.specs.Tables.{at}
 use Rattle.static_digraph.specs.Fixed.{graph_of}
 use Rattle.path_search.specs.Queue.{entries_of}
-use Rattle.path_search.specs.Search.{open_count}
-use Rattle.path_search.specs.Steps.{AreSized, IsSearching}
+use Rattle.pace_search.specs.Climbs.{open_count}
+use Rattle.pace_search.specs.Rounds.{AreSized}
+use Rattle.path_search.specs.Steps.{IsSearching}
 use Rattle.path_search.proofs.nearest.search.Given as goal
 
 abbrev pub invariant-loop-key : goal.invariant-loop-key

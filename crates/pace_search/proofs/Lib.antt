@@ -1,0 +1,13 @@
+pub mod Marks
+pub mod TreeSteps
+pub mod TreeRounds
+pub mod RoundSteps
+pub mod Climbing
+pub mod Climbed
+pub mod Rounded
+pub mod Begun
+pub mod Found
+pub mod PaceWalks
+pub mod RoundShown
+pub mod PotentialShown
+pub mod Shown
