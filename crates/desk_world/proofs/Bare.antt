@@ -12,6 +12,7 @@ use Rattle.base_items.specs.declared.items.ItemSort.{ItemSort}
 use Rattle.base_items.specs.declared.items.ItemSort.TheVariants.{Node, Arc}
 use Rattle.plain_digraph.specs.Items.{facts}
 use Rattle.plain_digraph.specs.Rising.{with_item}
+use Rattle.plain_digraph.specs.Lists.{AllOf}
 use Rattle.observe_core.specs.Held as held
 use Rattle.observe_core.specs.Held.{Entry, entry_id}
 use Rattle.observe_core.specs.Items.{place_all}
@@ -25,6 +26,7 @@ use Rattle.plain_world.specs.World as plain
 use Rattle.alter_graph.specs.declared.snaps.SnapKeys.{SnapKeys}
 use Rattle.desk_world.specs.declared.tables.GuardRow.{GuardRow}
 use Rattle.desk_world.specs.declared.tables.MapRow.{MapRow}
+use Rattle.desk_world.specs.declared.tables.ViewRow.{ViewRow}
 use Rattle.desk_world.specs.declared.tables.AttributeRow.{AttributeRow}
 use Rattle.desk_world.specs.declared.tables.AttributeRow.TheVariants as rows
 use Rattle.desk_world.specs.declared.world.World.{World}
@@ -198,7 +200,7 @@ module _ {O : Type 0} (watch : O → Watched) (w : World O) (s0 s2 : State)
     seated = seated;
     boxes = boxes;
     bare = record {
-      views = no_views;
+      views = subst (AllOf (λ (e : Named ViewRow). e.value.kept ≡ None)) (sym no_views) tt;
     };
     snaps = snaps_attached Arc d arcs.ties arcs.mid last arcs.second
         ∙ snaps_attached Arc c arcs.labels s2 arcs.mid arcs.first

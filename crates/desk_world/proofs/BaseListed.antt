@@ -1,13 +1,13 @@
 -- What a listing of the base says.
 use Rattle.std.proofs.Common.{◌≡◌, ℕ, ◌≤◌, Bool, true, false, cond, List, [], ◌∷◌, ◌++◌, map}
-use Rattle.std.proofs.Common.{filter, length, refl, sym, ap, Some, None, ◌∙◌, arith}
+use Rattle.std.proofs.Common.{filter, length, refl, sym, ap, Option, None, ◌∙◌, arith}
 use Rattle.std.specs.Prelude.{◌==◌, ◌||◌, Ok}
 use Rattle.std.specs.List.{flat_map}
-use Rattle.std.specs.Option.{option_or}
+use Rattle.std.specs.Option.{option_or, option_map_or}
 use Rattle.std.proofs.lemmas.Bool.{le-leb}
 use Rattle.std.proofs.lemmas.List.{length-map, map-append}
 use Rattle.base_items.specs.declared.items.ItemSort.TheVariants.{Node, Arc}
-use Rattle.base_items.specs.declared.limits.TheConstants.{MAX_NODES, MAX_ARCS, MAX_LAYERS}
+use Rattle.base_items.specs.declared.limits.TheConstants.{MAX_NODES, MAX_ARCS}
 use Rattle.script_words.specs.declared.commands.Command.TheVariants as commands
 use Rattle.report_text.specs.declared.replies.ArcLine.{ArcLine}
 use Rattle.report_text.specs.declared.replies.NodeLine.{NodeLine}
@@ -24,20 +24,14 @@ use Rattle.plain_views.specs.Towers as towers
 use Rattle.plain_views.specs.Towers.{Layer}
 use Rattle.plain_views.specs.Marks.{node_marks, arc_marks, arc_origin, marked}
 use Rattle.plain_views.proofs.Base.{base_out_ids}
-use Rattle.observe_core.specs.Seen.{Watched}
-use Rattle.plain_world.specs.Tables.{Name, Named, under, has_entry}
-use Rattle.plain_world.specs.World.{World, label_of}
+use Rattle.plain_world.specs.Tables.{Name, entry}
+use Rattle.plain_world.specs.World.{World, View, label_of}
 use Rattle.plain_world.specs.Demands as demands
 use Rattle.plain_world.specs.Refusals.{breach, above_limits, unless}
 use Rattle.plain_world.specs.Views as views
-use Rattle.plain_world.specs.Views.{is_base}
-use Rattle.plain_world.specs.Views.{tower_of, layers_up_to, values_of, shown_by, origin_label}
-use Rattle.desk_world.specs.declared.tables.ViewRow.{ViewRow}
-use Rattle.desk_world.specs.declared.world.World as desk
+use Rattle.plain_world.specs.Views.{tower_of, layers_up_to, layer_of, values_of, shown_by, origin_label}
 use Rattle.desk_world.specs.Faults.{Answers}
-use Rattle.desk_world.specs.InStep.{AreInStep}
 use Rattle.desk_world.specs.Lines.{node_line, arc_line}
-use Rattle.desk_world.specs.Plain.{plain_of, view_of}
 
 -- ---- the arcs of the base
 
@@ -83,11 +77,13 @@ module _ (g : Digraph) (valid : IsValid g) {X : Type 0} (read : ShownArc → X) 
       ≡ map (λ id. read (shown_arc g id)) (all_arcs g)
   base_in_order = read_in_order (ids g.nodes)
 
--- ---- a world without views
+-- ---- a view that isn't in the table: the base
 
-module _ (world : World) (bare : world.views ≡ []) (view : Name) where
+module _ (world : World) (view : Name) (none : entry world.views view ≡ None) where
   base_tower : tower_of world view ≡ []
-  base_tower = ap (λ table. layers_up_to MAX_LAYERS table view) bare
+  base_tower =
+      ap (λ (o : Option View). option_map_or (λ v. layer_of v.layer
+      ∷ layers_up_to 7 world.views v.below) o []) none
 
   abbrev shows : List (Layer Name) → Shown
   shows tower = towers.shown (values_of world) world.graph tower
@@ -162,18 +158,3 @@ module _ (world : World) (bare : world.views ≡ []) (view : Name) where
     λ i. option_or (option_or (there i) (option_or (base_small valid i) None)) None,
     (ap replies.Arcs (are ∙ sym (arcs_listed valid)), refl),
   )
-
-  -- the base is there, and no other view
-  pub base_there : is_base view ≡ true → breach world (demands.There demands.Views view) ≡ None
-  base_there is =
-      ap (λ b. unless (b || has_entry world.views view) (faults.Unknown view)) is
-
-  pub no_other : is_base view ≡ false
-      → breach world (demands.There demands.Views view) ≡ Some (faults.Unknown view)
-  no_other is = λ i. unless (is i || has_entry (bare i) view) (faults.Unknown view)
-
--- a world without views stands for one
-pub no_views : {O : Type 0} (watch : O → Watched) (w : desk.World O) → AreInStep watch w
-    → (plain_of watch w).views ≡ []
-no_views watch w in_step =
-    ap (map (λ (e : Named ViewRow). under e.name (view_of e.value))) in_step.bare.views

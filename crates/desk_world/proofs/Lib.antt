@@ -11,6 +11,7 @@ pub mod Labelled
 pub mod Relabelled
 pub mod Writing
 pub mod Adding
+pub mod ArcsAt
 pub mod AsMade
 pub mod Noticed
 pub mod TiesAfter
@@ -64,6 +65,7 @@ pub mod SnapTables
 pub mod SnapsFollow
 pub mod MapTables
 pub mod BuiltMaps
+pub mod InOrder
 pub mod Indexed
 pub mod MapsComing
 pub mod IndexFilled
@@ -141,3 +143,16 @@ mod AttributesFound
 mod TieCalls
 mod Renamed
 mod AttributeCommands
+pub mod ViewRows
+pub mod ViewSizes
+pub mod Layered
+pub mod ViewCommands
+pub mod NumberRows
+pub mod NodeWords
+pub mod NodesRaised
+pub mod MapNumbers
+pub mod NumberedMaps
+pub mod NumberedRows
+pub mod NumberedPartners
+pub mod ShownLive
+pub mod ViewListed

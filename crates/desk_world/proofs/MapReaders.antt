@@ -27,26 +27,9 @@ use Rattle.desk_world.specs.Indexes.{is_index_kind}
 use Rattle.desk_world.proofs.MapTables.{maps_plain}
 use Rattle.desk_world.proofs.Indexed.{index_told}
 use Rattle.desk_world.proofs.MapsFound.{Leads, leads_held, rows_lead}
+use Rattle.desk_world.proofs.ViewRows.{oldest_as}
 
 -- ---- tables
-
--- views are read by their layers
-oldest_view : (sort : ItemSort) (name : Name) (rows : List (Named ViewRow))
-    → oldest (λ (view : plain.View). reads sort name view.layer)
-    (map (λ (e : Named ViewRow). under e.name (view_of e.value)) rows)
-    ≡ oldest (λ (row : ViewRow). reads sort name row.layer) rows
-oldest_view sort name [] = refl
-oldest_view sort name (e ∷ es) =
-    let rest = oldest_view sort name es in
-    elim (reads sort name e.value.layer) as (λ b. option_map (λ (v : Named plain.View). v.name)
-    (cond b (Some (under e.name (view_of e.value)))
-    (find (λ (v : Named plain.View). reads sort name v.value.layer)
-    (map (λ (e : Named ViewRow). under e.name (view_of e.value)) es)))
-    ≡ option_map (λ (v : Named ViewRow). v.name)
-    (cond b (Some e) (find (λ (v : Named ViewRow). reads sort name v.value.layer) es))) [
-      | true ↦ refl
-      | false ↦ rest
-    ]
 
 oldest_index : (look : Look) (sort : ItemSort) (name : Name) (rows : List (Named MapRow))
     → AllOf (λ (e : Named MapRow). Leads look sort e.value) rows
@@ -89,7 +72,7 @@ module _ {O : Type 0} (watch : O → Watched) (w : World O) (in_step : AreInStep
 
   reader_is : reader_of world sort name ≡ option_or view_found index_found
   reader_is =
-      λ i. option_or (oldest_view sort name w.views.rows i)
+      λ i. option_or (oldest_as view_of (λ view. reads sort name view.layer) w.views.rows i)
       ((ap (oldest (refusals.is_index_of name)) (maps_plain watch w sort)
       ∙ oldest_index (look_of watch w) sort name (tables_of w sort).maps.rows
       (rows_lead watch w in_step sort)) i)

@@ -144,7 +144,7 @@ module _ {O : Type 0} (watch : O → Watched) (w : World O) (in_step : AreInStep
       (look_in c (seat_sort sort e.value.kind) e.value.key.0) refl sits)
       (tables_of w sort).maps.rows (maps_sit w c in_step.seated sort)
 
-  rows_seen : (sort : ItemSort)
+  pub rows_seen : (sort : ItemSort)
       → AllOf (λ (e : Named MapRow). is_some (map_seen (look_of watch w) sort e.value) ≡ true)
       (tables_of w sort).maps.rows
   rows_seen sort =

@@ -15,7 +15,8 @@ use Rattle.notify_chain.specs.Seats.{find_seat, seat_seen}
 use Rattle.alter_graph.specs.Chains.{ChainsSeen, chains_seen, seats_in}
 use Rattle.value_maps.specs.Entries.{HasValue}
 use Rattle.plain_world.specs.Tables.{Named}
-use Rattle.plain_world.specs.Values.{text_at, bool_text}
+use Rattle.plain_world.specs.Values.{text_at, bool_text, int_at, bool_at}
+use Rattle.plain_world.specs.World as plain
 use Rattle.desk_seats.specs.Contents.{among, ints_among, bools_among, texts_among}
 use Rattle.desk_seats.specs.Contents.{ints_in, bools_in, texts_in}
 use Rattle.desk_seats.specs.Forms as forms
@@ -118,12 +119,17 @@ module _ {O : Type 0} (watch : O → Watched) (w : World O) (sort : ItemSort) (r
               live;
         }
 
+    -- what is made of what the map has
+    seen_as : {X : Type 0} (f : plain.Held → X) (kind : MapKind) → row.kind ≡ kind → (x : X)
+        → f (held_by kind s.held) ≡ x
+        → option_map f (map_seen (look_of watch w) sort row) ≡ Some x
+    seen_as f kind is x at =
+        ap (option_map f) has.held ∙ ap (λ k. Some (f (held_by k s.held))) is ∙ ap Some at
+
     told : (kind : MapKind) → row.kind ≡ kind → (text : List ℕ)
         → text_at (held_by kind s.held) id ≡ text
         → option_map (λ held. text_at held id) (map_seen (look_of watch w) sort row) ≡ Some text
-    told kind is text at =
-        ap (option_map (λ held. text_at held id)) has.held
-        ∙ ap (λ k. Some (text_at (held_by k s.held) id)) is ∙ ap Some at
+    told = seen_as (λ held. text_at held id)
 
     -- ---- ints
 
@@ -149,6 +155,14 @@ module _ {O : Type 0} (watch : O → Watched) (w : World O) (sort : ItemSort) (r
           (has_value id value (ints_in s)
           (subst (λ es. IsTrue (rises_from entry_id 0 es)) (sym ints_are) ints.rise) at))
 
+      pub int_held : (value : ℤ) → HasValue id value (ints_in s)
+          → option_map (λ held. int_at held id) (map_seen (look_of watch w) sort row) ≡ Some value
+      int_held value at =
+          seen_as (λ held. int_at held id) maps.Ints is value
+          (ap (λ o. unwrap_or o (pos 0))
+          (has_value id value (ints_in s)
+          (subst (λ es. IsTrue (rises_from entry_id 0 es)) (sym ints_are) ints.rise) at))
+
     -- ---- bools
 
     module _ (is : row.kind ≡ maps.Bools) where
@@ -170,6 +184,14 @@ module _ {O : Type 0} (watch : O → Watched) (w : World O) (sort : ItemSort) (r
       bool_told value at =
           told maps.Bools is (bool_text value)
           (ap (λ o. bool_text (unwrap_or o false))
+          (has_value id value (bools_in s)
+          (subst (λ es. IsTrue (rises_from entry_id 0 es)) (sym bools_are) bools.rise) at))
+
+      pub bool_held : (value : Bool) → HasValue id value (bools_in s)
+          → option_map (λ held. bool_at held id) (map_seen (look_of watch w) sort row) ≡ Some value
+      bool_held value at =
+          seen_as (λ held. bool_at held id) maps.Bools is value
+          (ap (λ o. unwrap_or o false)
           (has_value id value (bools_in s)
           (subst (λ es. IsTrue (rises_from entry_id 0 es)) (sym bools_are) bools.rise) at))
 

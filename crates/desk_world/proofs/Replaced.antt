@@ -20,11 +20,11 @@ use Rattle.desk_world.proofs.NamedRows.{Stands, IsOther, stands, none_stands}
 same_name : (name : Name) → bytes_eq name name ≡ true
 same_name name = (bytes_eq-Decides name name).1 refl
 
-some_place : (b : Bool) (n k : ℕ) → cond b (Some n) None ≡ Some k → n ≡ k
+pub some_place : (b : Bool) (n k : ℕ) → cond b (Some n) None ≡ Some k → n ≡ k
 some_place true n k is = same_Some n k is
 some_place false n k is = absurd (none-some k is)
 
-no_place : (b : Bool) (n : ℕ) → cond b (Some n) None ≡ None → b ≡ false
+pub no_place : (b : Bool) (n : ℕ) → cond b (Some n) None ≡ None → b ≡ false
 no_place true n none = absurd (none-some n (sym none))
 no_place false n none = refl
 

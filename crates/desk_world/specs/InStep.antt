@@ -1,6 +1,6 @@
 -- That the seats of a world are in step with its digraph and its tables.
 use Rattle.std.specs.Prelude.{◌≡◌, ℕ, ◌+◌, ◌^◌, ◌≤◌, Bool, true, false, ◌&&◌, not, List, []}
-use Rattle.std.specs.Prelude.{◌∷◌, map, filter}
+use Rattle.std.specs.Prelude.{◌∷◌, map, filter, None}
 use Rattle.base_items.specs.declared.items.ItemSort.{ItemSort}
 use Rattle.base_items.specs.declared.limits.TheConstants.{MAX_STAMP}
 use Rattle.plain_digraph.specs.Lists.{AllOf, has}
@@ -73,9 +73,9 @@ has_values maps.Texts = true
 has_values (maps.Degrees way) = false
 has_values (maps.Trues map) = false
 
--- no command that is run yet makes a view
+-- no command that is run yet keeps a view
 pub record IsBare {O : Type 0} (w : World O) : Type 0 where
-  pub views : w.views.rows ≡ []
+  pub views : AllOf (λ e. e.value.kept ≡ None) w.views.rows
 
 module _ {O : Type 0} (watch : O → Watched) where
   -- each box of the pool is a guard that tracks nothing

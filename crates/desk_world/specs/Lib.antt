@@ -24,3 +24,8 @@ pub mod Seating
 pub mod Indexes
 pub mod Reads
 pub mod Attributes
+pub mod MapNumbers
+pub mod Naming
+pub mod NodeWords
+pub mod Shown
+pub mod NumberLaws

@@ -10,6 +10,7 @@ use Rattle.observe_core.specs.declared.kinds.Kind.{Kind}
 use Rattle.observe_core.specs.declared.kinds.Kind.TheVariants as kinds
 use Rattle.observe_core.specs.declared.kinds.Readout.{Readout}
 use Rattle.plain_world.specs.World.{World, label_of}
+use Rattle.desk_world.specs.declared.listings.SeenArc.{SeenArc}
 
 -- a node with its label
 abbrev pub node_line : World → ℕ → NodeLine
@@ -23,6 +24,10 @@ arc_line world id = record {
   from = label_of world Node (source_of world.graph id);
   to = label_of world Node (target_of world.graph id);
 }
+
+-- the line of an arc of which is known what it says
+abbrev pub line_of : SeenArc → ArcLine
+line_of a = record { id = a.id; name = a.name.now; from = a.from.now; to = a.to.now }
 
 -- the numbers of a guard of the kind, as they are read from it
 abbrev pub numbers_by : Kind → Readout → GuardNumbers

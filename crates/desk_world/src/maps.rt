@@ -36,7 +36,7 @@ pub fn is_label(name: &Text) -> bool
 }
 
 /// Whether a map of this kind has values of the type.
-fn is_of_type(kind: &MapKind, wanted: MapType) -> bool
+pub fn is_of_type(kind: &MapKind, wanted: MapType) -> bool
     ensures { result ≡ option_map_or (is_type wanted) (type_by kind.now) false }
 {
     match kind {

@@ -54,8 +54,12 @@ pub fn built(command: &Command) -> bool
         Command::Restore(_) => true,
         Command::Forget(_) => true,
         Command::Snaps => true,
+        Command::View(_, _, _) => true,
+        Command::Unview(_) => true,
         Command::Nodes(_) => true,
         Command::Arcs(_) => true,
+        Command::Out(_, _) => true,
+        Command::In(_, _) => true,
         Command::Tie(_, _) => true,
         Command::Untie(_) => true,
         Command::Attr(_) => true,
@@ -118,8 +122,12 @@ impl<B: Observer> World<Seat<B>> {
             Command::Restore(name) => self.restore(alloc, name),
             Command::Forget(name) => self.forget(alloc, name),
             Command::Snaps => self.snaps(alloc),
+            Command::View(name, layer, below) => self.view(alloc, name, layer, below),
+            Command::Unview(name) => self.unview(alloc, name),
             Command::Nodes(view) => self.nodes_of(alloc, view),
             Command::Arcs(view) => self.arcs_of(alloc, view),
+            Command::Out(view, node) => self.out_of(alloc, view, node),
+            Command::In(view, node) => self.in_of(alloc, view, node),
             Command::Tie(attribute, sort) => self.tie(alloc, attribute, *sort),
             Command::Untie(attribute) => self.untie(alloc, attribute),
             Command::Attr(attribute) => self.attr(alloc, attribute),
@@ -127,26 +135,6 @@ impl<B: Observer> World<Seat<B>> {
             Command::Save(file) => self.save(alloc, file),
             _ => unreachable!(),
         }
-    }
-
-    /// The nodes that a view shows.
-    fn nodes_of(&self, alloc: Global, view: &Text) -> Result<Reply, StepFault>
-        requires { IsInStep ⟦<Seat<B> as Observer>⟧.watch self.now }
-        ensures { Answers (plain_of ⟦<Seat<B> as Observer>⟧.watch self.now)
-            (commands.Nodes view.now) (plain_of ⟦<Seat<B> as Observer>⟧.watch self.now) result }
-    {
-        self.ask_view(alloc, view)?;
-        Ok(Reply::Nodes(self.list_nodes(alloc)?))
-    }
-
-    /// The arcs that it shows.
-    fn arcs_of(&self, alloc: Global, view: &Text) -> Result<Reply, StepFault>
-        requires { IsInStep ⟦<Seat<B> as Observer>⟧.watch self.now }
-        ensures { Answers (plain_of ⟦<Seat<B> as Observer>⟧.watch self.now) (commands.Arcs view.now)
-            (plain_of ⟦<Seat<B> as Observer>⟧.watch self.now) result }
-    {
-        self.ask_view(alloc, view)?;
-        Ok(Reply::Arcs(self.list_arcs(alloc)?))
     }
 
     /// The graph file of the world, under a name.

@@ -12,6 +12,7 @@ mod own_box;
 mod saves;
 mod scripts;
 mod snapshots;
+mod views;
 
 use crate::pool::serve_with_boxes;
 use edge_io::{MemShelf, MemSink};

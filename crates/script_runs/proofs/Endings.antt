@@ -198,8 +198,15 @@ does_save world later (commands.Restore snapshot) name bytes built does =
 does_save world later (commands.Forget snapshot) name bytes built does =
     absurd (let e = does.0 in cc)
 does_save world later commands.Snaps name bytes built does = absurd (let e = does.0 in cc)
+does_save world later (commands.View view layer below) name bytes built does =
+    absurd (let e = does.0 in cc)
+does_save world later (commands.Unview view) name bytes built does = absurd (let e = does.0 in cc)
 does_save world later (commands.Nodes view) name bytes built does = absurd (let e = does.0 in cc)
 does_save world later (commands.Arcs view) name bytes built does = absurd (let e = does.0 in cc)
+does_save world later (commands.Out view node) name bytes built does =
+    absurd (let e = does.0 in cc)
+does_save world later (commands.In view node) name bytes built does =
+    absurd (let e = does.0 in cc)
 does_save world later (commands.Tie attribute sort) name bytes built does =
     absurd (let e = does.0 in cc)
 does_save world later (commands.Untie attribute) name bytes built does =

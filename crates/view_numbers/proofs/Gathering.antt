@@ -16,7 +16,7 @@ use Rattle.view_numbers.proofs.Walking.{ahead_is}
 
 module _ (p : Shown) (shown : IsShown p) where
   -- the arcs of a part of the list are those of their ids
-  given_back : (arcs : List ShownArc) → Gives (arc_of p) arcs
+  pub given_back : (arcs : List ShownArc) → Gives (arc_of p) arcs
       → map fact_shown arcs ≡ map (fact_at p) (arc_ids arcs)
   given_back [] g = refl
   given_back (arc ∷ arcs) g =
@@ -24,7 +24,7 @@ module _ (p : Shown) (shown : IsShown p) where
       let rest = given_back arcs g.1 in
       λ i. here i ∷ rest i
 
-  kept_given : (k : ShownArc → Bool) (arcs : List ShownArc) → Gives (arc_of p) arcs
+  pub kept_given : (k : ShownArc → Bool) (arcs : List ShownArc) → Gives (arc_of p) arcs
       → Gives (arc_of p) (filter k arcs)
   kept_given k [] g = tt
   kept_given k (arc ∷ arcs) g = either (k arc) (filter k arcs) (kept_given k arcs g.1)

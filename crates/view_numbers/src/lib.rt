@@ -10,4 +10,5 @@ mod numbering;
 pub use checks::{first_below, first_crossed, first_outside, narrow};
 pub use cycles::{first_one_sided, turn_cycle};
 pub use fault::NumberFault;
+pub use listing::{list_arcs, list_nodes};
 pub use numbering::number;

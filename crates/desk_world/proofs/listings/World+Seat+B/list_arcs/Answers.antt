@@ -1,16 +1,9 @@
 use Rattle.std.proofs.Common.{ap, ◌∙◌}
-use Rattle.base_items.specs.declared.items.ItemSort.TheVariants.{Arc}
 use Rattle.plain_digraph.specs.Items.{all_arcs}
 use Rattle.list_digraph.specs.Roomy.{Roomy}
-use Rattle.desk_seats.specs.contracts.seat.SeatObserver.TheImpl.{watch-value}
-use Rattle.desk_world.specs.Plain.{plain_of}
-use Rattle.desk_world.proofs.Ordered.{live_at}
 use Rattle.desk_world.proofs.listings.World+Seat+B.list_arcs.Goals as goal
 
-pub arc_line-requires-clause-live : goal.arc_line-requires-clause-live
-arc_line-requires-clause-live g c =
-    let w = (watch-value g.row.B g.B.Observer g.B.Observer-dict g.B.Destruct-dict).it in
-    live_at (plain_of w c.args.self.now) Arc c.requires.seats.graph.valid
-    c.as_slice-id-items.result.now (c.as_slice-id-items.ensures.value ∙ c.in_ok-arcs.ensures
-    ∙ ap (λ (r : Roomy). all_arcs r.graph) c.graph.ensures)
-    c.loop-id.id-index c.loop-id-test.true
+pub see_arcs-requires-clause-listed : goal.see_arcs-requires-clause-listed
+see_arcs-requires-clause-listed g c =
+    c.as_slice.ensures.value ∙ c.in_ok-arcs.ensures
+    ∙ ap (λ (r : Roomy). all_arcs r.graph) c.graph.ensures

@@ -472,6 +472,39 @@ returns-in-Snaps g c =
       stamps = same_stamps _ _ refl;
     }
 
+pub view-requires-clause-valid : goal.view-requires-clause-valid
+view-requires-clause-valid g c = subst IsValid c.in-View.is c.requires.valid
+
+pub returns-in-View : goal.returns-in-View
+returns-in-View g c =
+    let w = (watch-value g.row.B g.B.Observer g.B.Observer-dict g.B.Destruct-dict).it in
+    let old = plain_of w c.args.self.now in
+    let new = plain_of w c.view.new.self in
+    let asked = commands.View c.in-View.name c.in-View.layer c.in-View.below in
+    record {
+      answered = answered_by old new c.args.command.now asked c.in-View.is c.view.result
+          c.view.ensures.step;
+      refused = refused_by old new c.args.command.now asked c.in-View.is c.view.result
+          c.view.ensures.step;
+      in_step = c.view.ensures.in_step;
+      stamps = c.view.ensures.stamps;
+    }
+
+pub returns-in-Unview : goal.returns-in-Unview
+returns-in-Unview g c =
+    let w = (watch-value g.row.B g.B.Observer g.B.Observer-dict g.B.Destruct-dict).it in
+    let old = plain_of w c.args.self.now in
+    let new = plain_of w c.unview.new.self in
+    let asked = commands.Unview c.in-Unview.name in
+    record {
+      answered = answered_by old new c.args.command.now asked c.in-Unview.is c.unview.result
+          c.unview.ensures.step;
+      refused = refused_by old new c.args.command.now asked c.in-Unview.is c.unview.result
+          c.unview.ensures.step;
+      in_step = c.unview.ensures.in_step;
+      stamps = c.unview.ensures.stamps;
+    }
+
 pub returns-in-Nodes : goal.returns-in-Nodes
 returns-in-Nodes g c =
     let w = (watch-value g.row.B g.B.Observer g.B.Observer-dict g.B.Destruct-dict).it in
@@ -498,6 +531,36 @@ returns-in-Arcs g c =
           c.arcs_of.ensures;
       refused = refused_by old new c.args.command.now asked c.in-Arcs.is c.arcs_of.result
           c.arcs_of.ensures;
+      in_step = c.requires.in_step;
+      stamps = same_stamps _ _ refl;
+    }
+
+pub returns-in-Out : goal.returns-in-Out
+returns-in-Out g c =
+    let w = (watch-value g.row.B g.B.Observer g.B.Observer-dict g.B.Destruct-dict).it in
+    let old = plain_of w c.args.self.now in
+    let new = plain_of w c.args.self.now in
+    let asked = commands.Out c.in-Out.view c.in-Out.node in
+    record {
+      answered = answered_by old new c.args.command.now asked c.in-Out.is c.out_of.result
+          c.out_of.ensures;
+      refused = refused_by old new c.args.command.now asked c.in-Out.is c.out_of.result
+          c.out_of.ensures;
+      in_step = c.requires.in_step;
+      stamps = same_stamps _ _ refl;
+    }
+
+pub returns-in-In : goal.returns-in-In
+returns-in-In g c =
+    let w = (watch-value g.row.B g.B.Observer g.B.Observer-dict g.B.Destruct-dict).it in
+    let old = plain_of w c.args.self.now in
+    let new = plain_of w c.args.self.now in
+    let asked = commands.In c.in-In.view c.in-In.node in
+    record {
+      answered = answered_by old new c.args.command.now asked c.in-In.is c.in_of.result
+          c.in_of.ensures;
+      refused = refused_by old new c.args.command.now asked c.in-In.is c.in_of.result
+          c.in_of.ensures;
       in_step = c.requires.in_step;
       stamps = same_stamps _ _ refl;
     }
