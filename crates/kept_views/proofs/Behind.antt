@@ -1,6 +1,6 @@
 -- The walk to an item's place, over a table of items.
-use Rattle.std.proofs.Common.{◌≡◌, ◌≢◌, ℕ, ◌+◌, ◌-◌, ◌<◌, ◌≤◌, IsTrue, List, map, length, Option}
-use Rattle.std.proofs.Common.{Some, None, get_or, refl, sym, ap, subst, ◌∙◌, arith}
+use Rattle.std.proofs.Common.{◌≡◌, ◌≢◌, ℕ, ◌-◌, ◌<◌, ◌≤◌, IsTrue, List, map, length, Option}
+use Rattle.std.proofs.Common.{Some, None, get_or, sym, subst}
 use Rattle.std.specs.Prelude.{Contains}
 use Rattle.base_items.specs.declared.items.Fact.{Fact}
 use Rattle.linked_lists.specs.declared.lists.Link.{Link}
@@ -13,7 +13,7 @@ use Rattle.observe_core.proofs.ItemLemmas.{all_more, all-without, holds_only}
 use Rattle.observe_core.proofs.LiveLaws.{rises-without}
 use Rattle.list_digraph.proofs.Lists.{few_within}
 use Rattle.kept_views.specs.declared.listing.Listing.{Listing}
-use Rattle.kept_views.specs.Order.{owner_of, rank, items_at, ids_at, AreListed}
+use Rattle.kept_views.specs.Order.{owner_of, rank, items_at, AreListed}
 use Rattle.kept_views.specs.Listed.{Stands}
 use Rattle.kept_views.proofs.OrderLemmas.{distinct, owned_at}
 use Rattle.kept_views.proofs.Walk.{Walking, all_items_at, all_lack, all_only, walk_starts}

@@ -1,20 +1,19 @@
 -- Room for more lists, and for more ids.
-use Rattle.std.proofs.Common.{◌≡◌, ◌≢◌, ℕ, zero, suc, ◌+◌, ◌-◌, ◌<◌, ◌≤◌, ◌==◌, Bool, true, false}
-use Rattle.std.proofs.Common.{if◌then◌else◌, List, [], ◌∷◌, ◌++◌, map, length, Option, Some, None}
+use Rattle.std.proofs.Common.{◌≡◌, ℕ, zero, suc, ◌+◌, ◌-◌, ◌<◌, ◌≤◌, ◌==◌, Bool, true, false}
+use Rattle.std.proofs.Common.{if◌then◌else◌, List, [], ◌∷◌, ◌++◌, map, length, Option, None}
 use Rattle.std.proofs.Common.{take, take_all, replicate, get_or, inl, inr, refl, sym, ap, subst}
-use Rattle.std.proofs.Common.{◌∙◌, arith}
+use Rattle.std.proofs.Common.{arith}
 use Rattle.std.proofs.lemmas.Grind.{common_steps}
 use Rattle.std.proofs.lemmas.Bool.{cases_lt}
 use Rattle.std.proofs.lemmas.List.{length-append, length-replicate, get_or_append_left}
 use Rattle.base_items.specs.declared.items.Fact.{Fact}
 use Rattle.linked_lists.specs.declared.lists.Link.{Link}
-use Rattle.linked_lists.specs.Links.{loose, link_at, IsList, AreWithin}
+use Rattle.linked_lists.specs.Links.{loose, link_at, IsList}
 use Rattle.linked_lists.proofs.Chains.{chain_same}
 use Rattle.linked_lists.proofs.Changes.{walk_read}
 use Rattle.linked_lists.proofs.Ids.{in_both}
 use Rattle.plain_digraph.specs.Lists.{AllOf, has, first, after}
 use Rattle.observe_core.proofs.ItemLemmas.{all_more}
-use Rattle.list_digraph.specs.Tables.{AreLinked}
 use Rattle.kept_views.specs.declared.listing.Listing.{Listing}
 use Rattle.kept_views.specs.Order.{owner_of, put_falling, items_at, ids_at, HasRow, AreListed}
 use Rattle.kept_views.proofs.OrderLemmas.{within_at}
@@ -75,10 +74,12 @@ module _ (l : Listing) (heads : List (Option ℕ)) (links : List Link) (fs : Lis
     rows = let size = length-append heads (replicate n None) in
         more_rows (length (heads ++ replicate n None)) (length links) (omega (arith, size))
         (omega arith);
+    few = listed.few;
   }
 
-  more_links : (n : ℕ) → AreListed l heads (links ++ replicate n loose) fs
-  more_links n =
+  more_links : (n : ℕ) → length links + n ≤ 4194304
+      → AreListed l heads (links ++ replicate n loose) fs
+  more_links n few =
       let new : List Link = links ++ replicate n loose in
       let size = length-append links (replicate n loose) in
       record {
@@ -94,6 +95,7 @@ module _ (l : Listing) (heads : List (Option ℕ)) (links : List Link) (fs : Lis
               };
         };
         rows = more_rows (length heads) (length new) (omega arith) (omega (arith, size));
+        few = let more = length-replicate n loose in omega (arith, size, more, few);
       }
 
 -- what a resize that may fail leaves
@@ -105,11 +107,14 @@ lists_resized l heads links true n m few fs listed =
 lists_resized l heads links false n m few fs listed = listed
 
 pub links_resized : (l : Listing) (heads : List (Option ℕ)) (links : List Link) (b : Bool)
-    (n m : ℕ) → length links ≤ n → (fs : List Fact) → AreListed l heads links fs
-    → AreListed l heads (if b then take n links ++ replicate (n - m) loose else links) fs
-links_resized l heads links true n m few fs listed =
-    rw (take_all n links few) (more_links l heads links fs listed (n - m))
-links_resized l heads links false n m few fs listed = listed
+    (n m : ℕ) (blank : Link) → blank ≡ loose → m ≡ length links → m ≤ n → n ≤ 4194304
+    → (fs : List Fact) → AreListed l heads links fs
+    → AreListed l heads (if b then take n links ++ replicate (n - m) blank else links) fs
+links_resized l heads links true n m blank is size more few fs listed =
+    rw (take_all n links (omega (arith, size, more)))
+    (subst (λ (k : Link). AreListed l heads (links ++ replicate (n - m) k) fs) (sym is)
+    (more_links l heads links fs listed (n - m) (omega (arith, size, more, few))))
+links_resized l heads links false n m blank is size more few fs listed = listed
 
 -- ---- walks
 

@@ -1,14 +1,13 @@
 -- An item enters its list, or leaves it.
-use Rattle.std.proofs.Common.{◌≡◌, ◌≢◌, ℕ, ◌+◌, ◌<◌, ◌≤◌, nat_le, ◌==◌, Bool, true, false}
-use Rattle.std.proofs.Common.{if◌then◌else◌, IsTrue, List, [], ◌∷◌, ◌++◌, map, length, Option, Some}
-use Rattle.std.proofs.Common.{None, get_or, set, inl, inr, refl, sym, ap, subst, ◌∙◌, arith, cond}
+use Rattle.std.proofs.Common.{◌≡◌, ℕ, ◌<◌, ◌≤◌, nat_le, ◌==◌, true, false}
+use Rattle.std.proofs.Common.{if◌then◌else◌, IsTrue, List, [], ◌∷◌, ◌++◌, map, length, Option}
+use Rattle.std.proofs.Common.{None, get_or, set, refl, sym, ap, subst, ◌∙◌, arith, cond}
 use Rattle.std.specs.Prelude.{◌||◌, Contains, not}
-use Rattle.std.proofs.lemmas.Grind.{common_steps}
-use Rattle.std.proofs.lemmas.Bool.{eq-eqb, ne_eqb, eqb-true}
+use Rattle.std.proofs.lemmas.Bool.{eq-eqb, eqb-true}
 use Rattle.std.proofs.lemmas.List.{map-append, length-set}
 use Rattle.base_items.specs.declared.items.Fact.{Fact}
 use Rattle.linked_lists.specs.declared.lists.Link.{Link}
-use Rattle.linked_lists.specs.Links.{last_or, link_at, HasPlaces, AreWithin, IsList, IsPlace}
+use Rattle.linked_lists.specs.Links.{link_at, HasPlaces, AreWithin, IsList, IsPlace}
 use Rattle.linked_lists.specs.Links.{next_from}
 use Rattle.linked_lists.specs.Links.{removed, head_removed, inserted, head_inserted}
 use Rattle.plain_digraph.specs.Facts.{fact_id}
@@ -16,7 +15,7 @@ use Rattle.plain_digraph.specs.Lists.{AllOf, has, without}
 use Rattle.plain_digraph.specs.Rising.{with_item, without_item}
 use Rattle.plain_digraph.proofs.Counts.{without-lacks}
 use Rattle.observe_core.specs.Facts.{AllInBounds, IsInBounds}
-use Rattle.observe_core.specs.Items.{Lacks, has_id, rises_from}
+use Rattle.observe_core.specs.Items.{rises_from}
 use Rattle.observe_core.proofs.ItemLemmas.{all_more, all_at, all-without, contains-has, holds_only}
 use Rattle.observe_core.proofs.ItemLemmas.{lacks-without, place-without}
 use Rattle.observe_core.proofs.LiveLaws.{rises-without}
@@ -111,10 +110,10 @@ module _ (l : Listing) (fs : List Fact) (f : Fact) (rises : IsTrue (rises_from f
     leaver_has_places linked =
         leaver_placed {lists = ids_at l fs} all_owned linked (owner_of l f) f.id row.0 here_at
 
-    pub all_left : AreLinked heads links (ids_at l fs)
+    pub all_left : AreLinked heads links (ids_at l fs) → length links ≤ 4194304
         → AreListed l (set heads (owner_of l f) (head_removed head links f.id))
         (removed links f.id) others
-    all_left linked =
+    all_left linked few =
         let sized = length-set heads (owner_of l f) (head_removed head links f.id) in
         let placed = removed-length links f.id in
         record {
@@ -124,14 +123,16 @@ module _ (l : Listing) (fs : List Fact) (f : Fact) (rises : IsTrue (rises_from f
           rows = subst (λ n. AllOf (HasRow l n (length (removed links f.id))) others) (sym sized)
               (subst (λ n. AllOf (HasRow l (length heads) n) others) (sym placed)
               (less (HasRow l (length heads) (length links)) rows));
+          few = omega (arith, placed, few);
         }
 
     -- by the words of the code
-    pub left_as : AreLinked heads links (ids_at l fs) → (n id : ℕ) (h old : Option ℕ)
-        (new : List Link) → f.id ≡ id → n ≡ owner_of l f → old ≡ get_or heads n None
+    pub left_as : AreLinked heads links (ids_at l fs) → length links ≤ 4194304
+        → (n id : ℕ) (h old : Option ℕ) (new : List Link) → f.id ≡ id → n ≡ owner_of l f
+        → old ≡ get_or heads n None
         → h ≡ head_removed old links id → new ≡ removed links id
         → AreListed l (set heads n h) new (without_item fact_id id fs)
-    left_as linked n id h old new named owner read headed gone =
+    left_as linked few n id h old new named owner read headed gone =
         let q : head_removed head links f.id ≡ h =
         sym (headed ∙ (λ i. head_removed ((read ∙ (λ j. get_or heads (owner j) None)) i) links
         (sym named i))) in
@@ -139,7 +140,7 @@ module _ (l : Listing) (fs : List Fact) (f : Fact) (rises : IsTrue (rises_from f
         subst (λ i. AreListed l (set heads n h) new (without_item fact_id i fs)) named
         (subst (λ k. AreListed l (set heads n h) k others) r
         (subst (λ (k : List (Option ℕ)). AreListed l k (removed links f.id) others)
-        (λ i. set heads (sym owner i) (q i)) (all_left linked)))
+        (λ i. set heads (sym owner i) (q i)) (all_left linked few)))
 
     -- ---- it enters
 
@@ -194,9 +195,10 @@ module _ (l : Listing) (fs : List Fact) (f : Fact) (rises : IsTrue (rises_from f
           ∙ next_from-read head links front back list_here))
           (first_back_place (length links) front back within_parts)
 
-      pub all_entered : AreListed l (set heads (owner_of l f) (head_inserted head behind f.id))
+      pub all_entered : length links ≤ 4194304
+          → AreListed l (set heads (owner_of l f) (head_inserted head behind f.id))
           (inserted head links behind f.id) fs
-      all_entered =
+      all_entered few =
           let sized = length-set heads (owner_of l f) (head_inserted head behind f.id) in
           let placed = inserted-length head links behind f.id in
           record {
@@ -209,12 +211,14 @@ module _ (l : Listing) (fs : List Fact) (f : Fact) (rises : IsTrue (rises_from f
             rows = subst (λ n. AllOf (HasRow l n (length (inserted head links behind f.id))) fs)
                 (sym sized)
                 (subst (λ n. AllOf (HasRow l (length heads) n) fs) (sym placed) rows);
+            few = omega (arith, placed, few);
           }
 
-      pub entered_as : (n id : ℕ) (h old : Option ℕ) (new : List Link) → f.id ≡ id
-          → n ≡ owner_of l f → old ≡ get_or heads n None → h ≡ head_inserted old behind id
-          → new ≡ inserted old links behind id → AreListed l (set heads n h) new fs
-      entered_as n id h old new named owner read headed there =
+      pub entered_as : length links ≤ 4194304 → (n id : ℕ) (h old : Option ℕ) (new : List Link)
+          → f.id ≡ id → n ≡ owner_of l f → old ≡ get_or heads n None
+          → h ≡ head_inserted old behind id → new ≡ inserted old links behind id
+          → AreListed l (set heads n h) new fs
+      entered_as few n id h old new named owner read headed there =
           let o : old ≡ head = read ∙ (λ j. get_or heads (owner j) None) in
           let q : head_inserted head behind f.id ≡ h =
           sym (headed ∙ (λ i. head_inserted (o i) behind (sym named i))) in
@@ -222,4 +226,4 @@ module _ (l : Listing) (fs : List Fact) (f : Fact) (rises : IsTrue (rises_from f
           sym (there ∙ (λ i. inserted (o i) links behind (sym named i))) in
           subst (λ k. AreListed l (set heads n h) k fs) r
           (subst (λ (k : List (Option ℕ)). AreListed l k (inserted head links behind f.id) fs)
-          (λ i. set heads (sym owner i) (q i)) all_entered)
+          (λ i. set heads (sym owner i) (q i)) (all_entered few))

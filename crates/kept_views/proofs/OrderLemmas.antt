@@ -1,28 +1,23 @@
 -- Items in lists by falling stamp.
-use Rattle.std.proofs.Common.{◌≡◌, ◌≢◌, ℕ, ◌+◌, ◌*◌, ◌<◌, ◌≤◌, nat_le, ◌==◌, Bool, true, false}
-use Rattle.std.proofs.Common.{if◌then◌else◌, IsTrue, List, [], ◌∷◌, ◌++◌, map, length, Option, Some}
-use Rattle.std.proofs.Common.{None}
-use Rattle.std.proofs.Common.{get_or, set, inl, inr, refl, sym, ap, subst, ◌∙◌, arith, cond}
-use Rattle.std.specs.Prelude.{◌||◌, ◌⊎◌, Contains}
+use Rattle.std.proofs.Common.{◌≡◌, ◌≢◌, ℕ, ◌+◌, ◌<◌, nat_le, ◌==◌, Bool, true, false}
+use Rattle.std.proofs.Common.{if◌then◌else◌, IsTrue, List, [], ◌∷◌, map}
+use Rattle.std.proofs.Common.{inl, inr, refl, sym, ap, subst, ◌∙◌, arith}
+use Rattle.std.specs.Prelude.{◌||◌, ◌⊎◌}
 use Rattle.std.proofs.lemmas.Grind.{common_steps}
-use Rattle.std.proofs.lemmas.Bool.{eq-eqb, ne_eqb, cases_eq, cases_Bool, or_cases, eqb-true}
+use Rattle.std.proofs.lemmas.Bool.{eq-eqb, ne_eqb, or_cases, eqb-true}
 use Rattle.std.proofs.lemmas.Bool.{true≢false}
 use Rattle.base_items.specs.declared.items.Fact.{Fact}
-use Rattle.linked_lists.specs.declared.lists.Link.{Link}
-use Rattle.linked_lists.specs.Links.{IsList, AreApart, AreWithin, link_at, last_or, HasPlaces}
-use Rattle.linked_lists.specs.Links.{removed, head_removed, inserted, head_inserted}
-use Rattle.linked_lists.proofs.Ids.{in_both, has_here, has_later}
+use Rattle.linked_lists.specs.Links.{AreApart, AreWithin}
+use Rattle.linked_lists.proofs.Ids.{in_both, has_later}
 use Rattle.plain_digraph.specs.Facts.{fact_id}
-use Rattle.plain_digraph.specs.Lists.{AllOf, has, without}
-use Rattle.plain_digraph.specs.Rising.{with_item, without_item}
-use Rattle.plain_digraph.proofs.Counts.{without-lacks}
+use Rattle.plain_digraph.specs.Lists.{AllOf, has}
+use Rattle.plain_digraph.specs.Rising.{with_item}
 use Rattle.observe_core.specs.Facts.{AllInBounds, IsInBounds, HasDistinctIds}
 use Rattle.observe_core.proofs.ItemLemmas.{and_right, rises-lacks}
-use Rattle.observe_core.specs.Items.{Lacks, has_id, rises_from}
-use Rattle.list_digraph.specs.Tables.{AreLinked}
-use Rattle.list_digraph.proofs.Lists.{Owned, linked_left, linked_entered, linked_as, lacks_or}
+use Rattle.observe_core.specs.Items.{Lacks, rises_from}
+use Rattle.list_digraph.proofs.Lists.{Owned, lacks_or}
 use Rattle.kept_views.specs.declared.listing.Listing.{Listing}
-use Rattle.kept_views.specs.Order.{owner_of, rank, put_falling, items_at, ids_at, HasRow, AreListed}
+use Rattle.kept_views.specs.Order.{owner_of, rank, put_falling, items_at, ids_at}
 
 -- ---- items go in in any order
 

@@ -25,7 +25,7 @@ use Rattle.kept_views.specs.Ordered.{IsOrdered, HaveReach, HaveId, KnowsId}
 use Rattle.kept_views.specs.Ordered.{listing_of, listings, is_target, is_none}
 use Rattle.kept_views.specs.Ordered.{by_listing, is_whole, are_by_ends, lesser, reach_with}
 use Rattle.kept_views.specs.Ordered.{reach_of}
-use Rattle.kept_views.specs.Reaching.{has_ends, top_is, target_ends, source_ends, second_is}
+use Rattle.kept_views.specs.Reaching.{top_is, target_ends, source_ends, second_is}
 
 -- ---- the item is there before it is moved back
 

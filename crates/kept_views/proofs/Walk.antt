@@ -1,11 +1,10 @@
 -- The walk to an item's place in a list.
-use Rattle.std.proofs.Common.{◌≡◌, ◌≢◌, ℕ, zero, suc, ◌+◌, ◌-◌, ◌<◌, ◌≤◌, nat_le, ◌==◌, Bool, true}
-use Rattle.std.proofs.Common.{false, if◌then◌else◌, IsTrue, List, [], ◌∷◌, ◌++◌, map, length}
+use Rattle.std.proofs.Common.{◌≡◌, ◌≢◌, ℕ, ◌-◌, ◌<◌, ◌≤◌, nat_le, ◌==◌, true}
+use Rattle.std.proofs.Common.{false, if◌then◌else◌, List, [], ◌∷◌, ◌++◌, map, length}
 use Rattle.std.proofs.Common.{Option}
 use Rattle.std.proofs.Common.{Some, None, refl, sym, ap, subst, ◌∙◌, arith, append_assoc}
-use Rattle.std.specs.Prelude.{Contains}
 use Rattle.std.proofs.lemmas.Grind.{common_steps}
-use Rattle.std.proofs.lemmas.List.{map-append, append-nil, length-map}
+use Rattle.std.proofs.lemmas.List.{map-append, length-map}
 use Rattle.std.proofs.lemmas.Option.{none-some, same_Some}
 use Rattle.base_items.specs.declared.items.Fact.{Fact}
 use Rattle.linked_lists.specs.declared.lists.Link.{Link}
@@ -16,7 +15,7 @@ use Rattle.plain_digraph.specs.Facts.{fact_id}
 use Rattle.plain_digraph.specs.Lists.{AllOf, first}
 use Rattle.observe_core.specs.Items.{Lacks, HoldsOnly}
 use Rattle.kept_views.specs.declared.listing.Listing.{Listing}
-use Rattle.kept_views.specs.Order.{owner_of, rank, put_falling, items_at, ids_at}
+use Rattle.kept_views.specs.Order.{owner_of, rank, put_falling, items_at}
 use Rattle.kept_views.specs.Listed.{Stands}
 
 -- ---- what is so of all items is so of those of a list

@@ -1,6 +1,6 @@
 -- Walks over all that is held.
-use Rattle.std.proofs.Common.{◌≡◌, ℕ, ◌<◌, ◌==◌, Bool, true, false, if◌then◌else◌, IsTrue, List, []}
-use Rattle.std.proofs.Common.{◌∷◌, map, length, Option, Some, None, IfSome, get_or, refl, sym, ap}
+use Rattle.std.proofs.Common.{◌≡◌, ℕ, ◌==◌, Bool, true, false, if◌then◌else◌, IsTrue, List, []}
+use Rattle.std.proofs.Common.{◌∷◌, map, Option, Some, None, IfSome, get_or, refl, sym, ap}
 use Rattle.std.proofs.Common.{subst, ◌∙◌, IfNone, is_some, arith}
 use Rattle.observe_core.proofs.ItemLemmas.{lacks-not_has, contains-has}
 use Rattle.std.specs.Option.{option_map}
@@ -9,7 +9,6 @@ use Rattle.std.proofs.lemmas.Grind.{common_steps}
 use Rattle.base_items.specs.declared.items.Fact.{Fact}
 use Rattle.plain_digraph.specs.Facts.{fact_id}
 use Rattle.plain_digraph.specs.Lists.{has}
-use Rattle.observe_core.specs.Held.{Marked, marked_id}
 use Rattle.observe_core.specs.Items.{has_id, Lacks}
 use Rattle.observe_core.specs.Seen.{facts_of_marked}
 use Rattle.fact_table.specs.Table.{facts_of}
@@ -19,7 +18,7 @@ use Rattle.kept_views.specs.declared.listing.Listing.TheVariants.{Whole, BySourc
 use Rattle.kept_views.specs.declared.order.Order.{Order}
 use Rattle.kept_views.specs.declared.nodes.KeptNodes.{KeptNodes}
 use Rattle.kept_views.specs.declared.arcs.KeptArcs.{KeptArcs}
-use Rattle.kept_views.specs.Order.{put_falling, items_at, ids_at}
+use Rattle.kept_views.specs.Order.{items_at, ids_at}
 use Rattle.kept_views.specs.Ordered.{by_listing, listing_of, is_none, is_target, KnowsId}
 use Rattle.kept_views.specs.Listed.{IsListed}
 use Rattle.kept_views.specs.ItemViews.{no_marks, marked, marks_in}

@@ -1,7 +1,6 @@
 -- Items in lists by falling stamp, many lists through one table of links.
-use Rattle.std.specs.Prelude.{◌≡◌, ℕ, ◌+◌, ◌*◌, ◌<◌, nat_lt, nat_le, ◌==◌, if◌then◌else◌, List, []}
-use Rattle.std.specs.Prelude.{◌∷◌}
-use Rattle.std.specs.Prelude.{map, length, Option}
+use Rattle.std.specs.Prelude.{ℕ, ◌+◌, ◌*◌, ◌<◌, ◌≤◌, nat_lt, nat_le, ◌==◌}
+use Rattle.std.specs.Prelude.{if◌then◌else◌, List, [], ◌∷◌, map, length, Option}
 use Rattle.base_items.specs.declared.items.Fact.{Fact}
 use Rattle.linked_lists.specs.declared.lists.Link.{Link}
 use Rattle.plain_digraph.specs.Facts.{fact_id}
@@ -55,3 +54,4 @@ pub record AreListed (l : Listing) (heads : List (Option ℕ)) (links : List Lin
     (fs : List Fact) : Type 0 where
   pub linked : AreLinked heads links (ids_at l fs)
   pub rows : AllOf (HasRow l (length heads) (length links)) fs
+  pub few : length links ≤ 4194304

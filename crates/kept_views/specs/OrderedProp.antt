@@ -9,7 +9,7 @@ use Rattle.list_digraph.specs.Tables.{AreLinked}
 use Rattle.kept_views.specs.declared.listing.Listing.{Listing}
 use Rattle.kept_views.specs.declared.order.Order.{Order}
 use Rattle.kept_views.specs.declared.orders.Orders.{Orders}
-use Rattle.kept_views.specs.Order.{HasRow, AreListed}
+use Rattle.kept_views.specs.Order.{HasRow}
 use Rattle.kept_views.specs.Listed.{IsListed}
 use Rattle.kept_views.specs.Ordered.{IsOrdered}
 

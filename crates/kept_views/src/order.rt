@@ -14,14 +14,8 @@ ghost use Rattle.kept_views.specs.Listed.{IsListed, HasRows, HasRoom, HasReach, 
 use crate::listing::Listing;
 use base_items::Fact;
 use fact_table::FactTable;
-use linked_lists::{Link, insert, remove};
+use linked_lists::{Link, insert, loose, remove};
 use std::alloc::{AllocError, Global};
-
-/// The link of an id that stands in no list.
-const LOOSE: Link = Link {
-    prev: None,
-    next: None,
-};
 
 /// Lists of items, the newest in front. The items themselves are in a table beside it.
 #[derive(Drop)]
@@ -74,7 +68,7 @@ impl Order {
     {
         let at = id as usize;
         if self.links.len() <= at {
-            self.links.resize(at + 1, LOOSE)?;
+            self.links.resize(at + 1, loose())?;
         }
         Ok(())
     }
@@ -113,7 +107,7 @@ impl Order {
             → has (ids_at self.now.listing fs v) id ≡ true
             → result ≡ after (ids_at self.now.listing fs v) id }
     {
-        self.links[id as usize].next
+        self.links[id as usize].next.id()
     }
 
     /// The last item that stands in front of the place of this one.
@@ -142,7 +136,7 @@ impl Order {
                 return behind;
             }
             behind = next;
-            next = self.links[id as usize].next;
+            next = self.links[id as usize].next.id();
             left -= 1;
         }
         behind

@@ -6,6 +6,8 @@
 
 mod laws;
 mod lists;
+mod spots;
 
 pub use laws::{inserted_in_list, insertion_keeps, removal_keeps, removed_from_list};
-pub use lists::{Link, insert, remove};
+pub use lists::{Link, insert, loose, remove};
+pub use spots::Spot;

@@ -14,7 +14,7 @@ use crate::graph::ListDigraph;
 use crate::rows::ArcRow;
 use crate::sides::{enter_in, enter_out, leave_in, leave_out};
 use base_items::{Arc, Fact, ItemSort, Limit, MAX_ARCS, MAX_STAMP, Node};
-use linked_lists::{Link, insert, remove};
+use linked_lists::{insert, loose, remove};
 
 impl ListDigraph {
     /// Adds an arc between two live nodes, in front of the others in both lists. The id that was
@@ -110,17 +110,13 @@ impl ListDigraph {
             from_at: self.stamps,
             to_at: self.stamps,
         };
-        let link = Link {
-            prev: None,
-            next: None,
-        };
         if self.arcs.push(row).is_err() {
             unreachable!();
         }
-        if self.out_links.push(link).is_err() {
+        if self.out_links.push(loose()).is_err() {
             unreachable!();
         }
-        if self.in_links.push(link).is_err() {
+        if self.in_links.push(loose()).is_err() {
             unreachable!();
         }
         enter_out(&mut self.nodes, &mut self.out_links, from, None, id);

@@ -13,7 +13,7 @@ use crate::faults::AddFault;
 use crate::graph::ListDigraph;
 use crate::rows::NodeRow;
 use base_items::{Fact, ItemSort, Limit, MAX_NODES, MAX_STAMP, Node};
-use linked_lists::{Link, insert, remove};
+use linked_lists::{insert, loose, remove};
 
 impl ListDigraph {
     /// Adds a node in front of the others. The id that was given back last is used first.
@@ -94,14 +94,10 @@ impl ListDigraph {
             first_out: None,
             first_in: None,
         };
-        let link = Link {
-            prev: None,
-            next: None,
-        };
         if self.nodes.push(row).is_err() {
             unreachable!();
         }
-        if self.node_links.push(link).is_err() {
+        if self.node_links.push(loose()).is_err() {
             unreachable!();
         }
         insert(&mut self.first_node, &mut self.node_links, None, id);

@@ -33,7 +33,7 @@ pub fn last_newer(
             return behind;
         }
         behind = next;
-        next = table[arc as usize].next;
+        next = table[arc as usize].next.id();
         left -= 1;
     }
     behind

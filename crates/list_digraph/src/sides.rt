@@ -1,6 +1,6 @@
 //! The lists of arcs at the nodes: an arc leaves the list of a node, or enters it.
 
-ghost use Rattle.std.specs.Prelude.{◌≡◌, ◌<◌, length, vec_capacity};
+ghost use Rattle.std.specs.Prelude.{◌≡◌, ◌<◌, ◌≤◌, length, vec_capacity};
 ghost use Rattle.linked_lists.specs.Links as spec;
 ghost use Rattle.list_digraph.specs.Rows as rows;
 
@@ -11,7 +11,8 @@ use linked_lists::{Link, insert, remove};
 pub fn leave_out(nodes: &mut Vec<NodeRow>, links: &mut Vec<Link>, node: u32, arc: u32)
     requires node { node < length nodes.old.items }
     requires arc { arc < length links.old.items }
-    requires neighbours { spec.HasPlaces (length links.old.items) (spec.link_at links.old.items arc) }
+    requires neighbours { spec.HasPlaces (length links.old.items)
+        (spec.link_at links.old.items arc) }
     ensures nodes { rows.SetsOut nodes.old.items nodes.new.items node
         (spec.head_removed (rows.out_head nodes.old.items node) links.old.items arc) }
     ensures links { links.new.items ≡ spec.removed links.old.items arc }
@@ -27,7 +28,8 @@ pub fn leave_out(nodes: &mut Vec<NodeRow>, links: &mut Vec<Link>, node: u32, arc
 pub fn leave_in(nodes: &mut Vec<NodeRow>, links: &mut Vec<Link>, node: u32, arc: u32)
     requires node { node < length nodes.old.items }
     requires arc { arc < length links.old.items }
-    requires neighbours { spec.HasPlaces (length links.old.items) (spec.link_at links.old.items arc) }
+    requires neighbours { spec.HasPlaces (length links.old.items)
+        (spec.link_at links.old.items arc) }
     ensures nodes { rows.SetsIn nodes.old.items nodes.new.items node
         (spec.head_removed (rows.in_head nodes.old.items node) links.old.items arc) }
     ensures links { links.new.items ≡ spec.removed links.old.items arc }
@@ -47,6 +49,7 @@ pub fn enter_out(
     behind: Option<u32>,
     arc: u32,
 )
+    requires few { length links.old.items ≤ 4294967295 }
     requires node { node < length nodes.old.items }
     requires arc { arc < length links.old.items }
     requires behind { spec.IsPlace (length links.old.items) behind }
@@ -72,6 +75,7 @@ pub fn enter_in(
     behind: Option<u32>,
     arc: u32,
 )
+    requires few { length links.old.items ≤ 4294967295 }
     requires node { node < length nodes.old.items }
     requires arc { arc < length links.old.items }
     requires behind { spec.IsPlace (length links.old.items) behind }

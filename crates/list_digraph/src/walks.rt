@@ -20,7 +20,7 @@ impl ListDigraph {
         requires { items.IsLive self.now.graph ItemSort.Node n.0 }
         ensures { option_map (λ n. n.0) result ≡ lists.after (items.ids self.now.graph.nodes) n.0 }
     {
-        node(self.node_links[n.0 as usize].next)
+        node(self.node_links[n.0 as usize].next.id())
     }
 
     /// The first arc from the node. None exactly where there is none.
@@ -37,7 +37,7 @@ impl ListDigraph {
         ensures { let source = items.source_of self.now.graph a.0 in
             option_map (λ a. a.0) result ≡ lists.after (items.out_arcs self.now.graph source) a.0 }
     {
-        arc(self.out_links[a.0 as usize].next)
+        arc(self.out_links[a.0 as usize].next.id())
     }
 
     /// The first arc to the node. None exactly where there is none.
@@ -54,7 +54,7 @@ impl ListDigraph {
         ensures { let target = items.target_of self.now.graph a.0 in
             option_map (λ a. a.0) result ≡ lists.after (items.in_arcs self.now.graph target) a.0 }
     {
-        arc(self.in_links[a.0 as usize].next)
+        arc(self.in_links[a.0 as usize].next.id())
     }
 }
 

@@ -1,4 +1,5 @@
 use Rattle.std.proofs.Common.{◌≡◌, ◌-◌, ◌<◌, length, get_or, Some, sym, ap, subst, ◌∙◌, arith}
+use Rattle.std.proofs.Common.{Option, ℕ}
 use Rattle.std.proofs.lemmas.List.{get_or_default}
 use Rattle.linked_lists.specs.declared.lists.Link.{Link}
 use Rattle.linked_lists.specs.Links.{loose}
@@ -61,9 +62,12 @@ walk-preserved c =
     let link : Link = c.index-in-walk.result.now in
     let read : link ≡ get_or table c.in-Some.arc loose = c.index-in-walk.ensures
     ∙ get_or_default table c.in-Some.arc link loose below in
-    subst (λ (l : Link).
+    subst (λ (o : Option ℕ).
+    Walking table (stamp_in c.args.side arcs) c.args.at (Some c.in-Some.arc)
+    (chain table (c.walk.left - 1) o) whole) (sym c.id-next.ensures)
+    (subst (λ (l : Link).
     Walking table (stamp_in c.args.side arcs) c.args.at (Some c.in-Some.arc)
     (chain table (c.walk.left - 1) l.next) whole) (sym read)
     (walk_goes table (stamp_in c.args.side arcs) c.args.at c.walk.behind c.walk.next c.walk.left
     c.in-Some.arc whole c.walk.invariant c.in-Some.is some
-    (omega (arith, is, c.if-stamp-at.false)))
+    (omega (arith, is, c.if-stamp-at.false))))

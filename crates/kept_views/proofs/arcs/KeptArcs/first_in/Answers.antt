@@ -1,5 +1,5 @@
-use Rattle.std.proofs.Common.{◌≡◌, true, ◌∙◌, IsTrue, subst, sym, ap}
-use Rattle.plain_digraph.specs.Lists.{first, after, has}
+use Rattle.std.proofs.Common.{◌∙◌, ap}
+use Rattle.plain_digraph.specs.Lists.{first}
 use Rattle.fact_table.specs.Table.{facts_of}
 use Rattle.kept_views.proofs.WalkLemmas.{in_lists, second_there, second_listed}
 use Rattle.kept_views.proofs.arcs.KeptArcs.first_in.Goals as goal

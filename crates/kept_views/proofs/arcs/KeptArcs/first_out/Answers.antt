@@ -1,5 +1,5 @@
-use Rattle.std.proofs.Common.{◌∙◌, IsTrue, length, subst, sym, ap, refl}
-use Rattle.plain_digraph.specs.Lists.{first, after, has}
+use Rattle.std.proofs.Common.{◌∙◌, ap}
+use Rattle.plain_digraph.specs.Lists.{first}
 use Rattle.fact_table.specs.Table.{facts_of}
 use Rattle.kept_views.proofs.WalkLemmas.{out_lists}
 use Rattle.kept_views.proofs.arcs.KeptArcs.first_out.Goals as goal

@@ -1,5 +1,5 @@
-use Rattle.std.proofs.Common.{◌∙◌, IsTrue, length, subst, sym, ap, refl}
-use Rattle.plain_digraph.specs.Lists.{first, after, has}
+use Rattle.std.proofs.Common.{◌∙◌, IsTrue, subst, sym, ap}
+use Rattle.plain_digraph.specs.Lists.{after, has}
 use Rattle.fact_table.specs.Table.{facts_of}
 use Rattle.std.proofs.Common.{◌≡◌, true}
 use Rattle.kept_views.proofs.ItemsLemmas.{has-marked}

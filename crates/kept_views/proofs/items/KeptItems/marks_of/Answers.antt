@@ -1,4 +1,4 @@
-use Rattle.std.proofs.Common.{◌<◌, ◌∙◌, IsTrue, length, subst, sym, arith}
+use Rattle.std.proofs.Common.{◌<◌, ◌∙◌, IsTrue, length, subst, arith}
 use Rattle.std.proofs.lemmas.List.{get_or_default}
 use Rattle.fact_table.specs.Table.{facts_of}
 use Rattle.kept_views.specs.ItemViews.{no_marks}

@@ -1,7 +1,5 @@
-use Rattle.std.proofs.Common.{◌≡◌, true, false, IsTrue, Option, Some, None, IfSome, IfNone, is_some}
-use Rattle.std.proofs.Common.{sym, ap}
-use Rattle.std.proofs.Common.{◌∙◌, refl, subst}
-use Rattle.plain_digraph.specs.Facts.{fact_id}
+use Rattle.std.proofs.Common.{sym}
+use Rattle.std.proofs.Common.{◌∙◌}
 use Rattle.fact_table.specs.Table.{facts_of}
 use Rattle.kept_views.proofs.ItemsLemmas.{has-marked}
 use Rattle.kept_views.proofs.WalkLemmas.{found_or_not}

@@ -1,5 +1,5 @@
-use Rattle.std.proofs.Common.{◌∙◌, IsTrue, length, subst, sym, ap, refl}
-use Rattle.plain_digraph.specs.Lists.{first, after, has}
+use Rattle.std.proofs.Common.{◌∙◌, IsTrue, subst, ap}
+use Rattle.plain_digraph.specs.Lists.{after}
 use Rattle.fact_table.specs.Table.{facts_of}
 use Rattle.kept_views.proofs.ItemsLemmas.{has-marked}
 use Rattle.kept_views.proofs.Undoing.{id_there}

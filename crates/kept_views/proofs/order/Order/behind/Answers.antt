@@ -1,5 +1,5 @@
-use Rattle.std.proofs.Common.{◌≡◌, ◌<◌, ◌≤◌, ◌-◌, length, get_or, Some, None, sym, ap, subst, ◌∙◌}
-use Rattle.std.proofs.Common.{arith}
+use Rattle.std.proofs.Common.{◌≡◌, ◌<◌, ◌≤◌, ◌-◌, length, get_or, Some, None, sym, subst, ◌∙◌}
+use Rattle.std.proofs.Common.{arith, Option, ℕ}
 use Rattle.std.proofs.lemmas.List.{get_or_default}
 use Rattle.linked_lists.specs.declared.lists.Link.{Link}
 use Rattle.linked_lists.specs.Links.{loose, link_at}
@@ -79,8 +79,10 @@ walk-preserved c =
     let link : Link = c.index.result.now in
     let read : link ≡ link_at self.links.items c.in-Some.id =
     c.index.ensures ∙ get_or_default self.links.items c.in-Some.id link loose b in
-    subst (λ (k : Link). Walking self.listing f whole (Some c.in-Some.id) k.next (c.walk.left - 1))
+    subst (λ (o : Option ℕ). Walking self.listing f whole (Some c.in-Some.id) o (c.walk.left - 1))
+    (sym c.id-next.ensures)
+    (subst (λ (k : Link). Walking self.listing f whole (Some c.in-Some.id) k.next (c.walk.left - 1))
     (sym read)
     (goes self.listing (facts_of table) f (table-rises table) self.heads.items self.links.items
     c.requires.listed c.requires.room c.walk.behind c.walk.next c.walk.left c.in-Some.id
-    c.walk.invariant c.in-Some.is c.in-Some-get.item at.0 at.1 high some)
+    c.walk.invariant c.in-Some.is c.in-Some-get.item at.0 at.1 high some))

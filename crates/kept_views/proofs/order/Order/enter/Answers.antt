@@ -1,4 +1,4 @@
-use Rattle.std.proofs.Common.{◌<◌, ◌≡◌, length, get_or, None, sym, ap, subst, ◌∙◌}
+use Rattle.std.proofs.Common.{◌<◌, ◌≡◌, length, get_or, None, sym, subst, ◌∙◌, arith}
 use Rattle.std.proofs.lemmas.List.{get_or_default}
 use Rattle.linked_lists.specs.Links.{IsPlace, next_from}
 use Rattle.list_digraph.specs.Tables.{AreLinked}
@@ -18,6 +18,9 @@ returns-in-None-clause-listed c =
     subst (IsListed c.args.self.now)
     (without-lacks fact_id c.args.id facts c.in-None.ensures.absent)
     c.requires.listed
+
+pub insert-requires-clause-few : goal.insert-requires-clause-few
+insert-requires-clause-few c = omega (arith, c.requires.listed.few)
 
 pub insert-requires-clause-behind : goal.insert-requires-clause-behind
 insert-requires-clause-behind c =
@@ -71,8 +74,8 @@ returns-clause-listed c =
     subst (λ n. n < length self.heads.items) (sym o) here.0 in
     entered_as self.listing facts f (table-rises table) (table-bounded table) at.0
     self.heads.items self.links.items c.requires.rows linked c.behind-behind.result
-    c.behind-behind.ensures c.owner-owner.result c.args.id c.insert.new.head c.index.result.now
-    c.insert.new.links.items at.1 o
+    c.behind-behind.ensures c.requires.listed.few c.owner-owner.result c.args.id
+    c.insert.new.head c.index.result.now c.insert.new.links.items at.1 o
     (c.index.ensures
     ∙ get_or_default self.heads.items c.owner-owner.result c.index.result.now None below)
     c.insert.ensures.head c.insert.ensures.links

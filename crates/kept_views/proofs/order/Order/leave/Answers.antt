@@ -1,12 +1,10 @@
-use Rattle.std.proofs.Common.{◌<◌, length, None, sym, ap, subst, ◌∙◌}
+use Rattle.std.proofs.Common.{◌<◌, length, None, sym, subst, ◌∙◌}
 use Rattle.std.proofs.lemmas.List.{get_or_default}
 use Rattle.linked_lists.specs.Links.{HasPlaces, link_at}
 use Rattle.plain_digraph.specs.Facts.{fact_id}
-use Rattle.plain_digraph.specs.Rising.{without_item}
 use Rattle.observe_core.proofs.ItemLemmas.{without-lacks}
 use Rattle.fact_table.specs.Table.{facts_of}
 use Rattle.fact_table.specs.TableFacts.{table-rises, table-bounded}
-use Rattle.kept_views.specs.Order.{owner_of}
 use Rattle.kept_views.specs.Listed.{IsListed}
 use Rattle.kept_views.proofs.Linked.{row, leaver_has_places, left_as}
 use Rattle.kept_views.proofs.order.Order.leave.Goals as goal
@@ -39,7 +37,8 @@ returns-clause-listed c =
     let below : c.owner-owner.result < length self.heads.items =
     subst (λ n. n < length self.heads.items) (sym o) here.0 in
     left_as self.listing (facts_of table) f (table-rises table) (table-bounded table) at.0
-    self.heads.items self.links.items c.requires.rows c.requires.linked c.owner-owner.result
+    self.heads.items self.links.items c.requires.rows c.requires.linked c.requires.few
+    c.owner-owner.result
     c.args.id c.remove.new.head c.index.result.now c.remove.new.links.items at.1 o
     (c.index.ensures
     ∙ get_or_default self.heads.items c.owner-owner.result c.index.result.now None below)

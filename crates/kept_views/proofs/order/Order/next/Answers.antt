@@ -11,5 +11,5 @@ returns c fs v listed at =
     let link : Link = c.index.result.now in
     let read = c.index.ensures
     ∙ get_or_default self.links.items c.args.id link loose c.requires in
-    ap (λ (k : Link). k.next) read
+    c.id.ensures ∙ ap (λ (k : Link). k.next) read
     ∙ next_read self.listing self.heads.items self.links.items fs listed v c.args.id at
