@@ -2,7 +2,7 @@
 use Rattle.std.proofs.Common.{◌≡◌, inl, inr, ℕ, ◌<◌, ◌≤◌, ◌^◌, Bool, true, false, cond, ℤ}
 use Rattle.std.proofs.Common.{pos, neg_ℤ}
 use Rattle.std.proofs.Common.{◌+ℤ◌, ◌-ℤ◌, ◌*ℤ◌, ◌≤ℤ◌, ◌<ℤ◌, List, length}
-use Rattle.std.proofs.Common.{sym, ◌∙◌, ap, subst, arith}
+use Rattle.std.proofs.Common.{refl, sym, ◌∙◌, ap, subst, arith}
 use Rattle.std.proofs.Math.IntN.{zero-*ℤ}
 use Rattle.std.proofs.lemmas.Int.{ints, by_lt_z}
 use Rattle.static_digraph.specs.declared.answers.Barrier.{Barrier}
@@ -17,6 +17,7 @@ use Rattle.plain_certificates.specs.Numbered.{Numbered, EndsAreNodes, net, sum_t
 use Rattle.plain_certificates.specs.Rooms.{as_flow}
 use Rattle.plain_certificates.specs.Tables.{at}
 use Rattle.plain_certificates.specs.Totals.{total_to}
+use Rattle.push_flow.proofs.Start.{fresh_held}
 use Rattle.push_flow.specs.Held.{Supply, most}
 use Rattle.push_flow.specs.declared.push.Ends.{Ends}
 use Rattle.push_flow.specs.declared.push.Spoke.{Spoke}
@@ -126,6 +127,28 @@ module _ (g : Numbered) (plan : Plan) (p : IsReady g 0 plan) where
       first.sends first.takes)
       first.low
 
+  -- where nothing has to be sent, nothing can be moved
+  pub begun_settled : (begun : Load)
+      → IsFirst g.nodes g.arcs (at (pos 0) plan.excess.items) begun
+      → ((v : ℕ) → v < g.nodes → at 0 begun.excess.items v ≡ 0)
+      → HasSettled (task_in g (at 0 plan.caps.items)) begun begun
+  begun_settled begun first none = record {
+    flow_all = refl;
+    excess_all = refl;
+    want_all = refl;
+    height_all = refl;
+    held = fresh_held (task_in g (at 0 plan.caps.items)) (at 0 begun.flow.items)
+        (at 0 begun.excess.items) (at 0 begun.want.items) (at 0 begun.height.items)
+        (λ k l. (let zero = first.still k in omega (arith, zero)))
+        (excess_few g (at (pos 0) plan.excess.items) begun.excess.items p.ends p.few_nodes
+        p.few_arcs p.light first.sends)
+        (begun_apart g.nodes (at (pos 0) plan.excess.items) begun.excess.items begun.want.items
+        first.sends first.takes)
+        first.low;
+    shut = λ k x u _ lx _ _ _ _. (let low = first.low x in omega (arith, low, lx));
+    quiet = λ v l _. none v l;
+  }
+
 -- ---- the end
 
 -- no flow is above the capacity of an open arc
@@ -138,15 +161,11 @@ sent_few g plan ended p r k l =
       | inr open_cap ↦ omega (arith, within, open_cap)
     ]
 
-module _ (g : Numbered) (bounds : Bounds) (plan : Plan) (ended : Load) (p : IsReady g 0 plan)
-    (q : IsReadyFor g bounds plan) (r : HasRun g plan ended) where
-  abbrev s : HasSettled (task_in g (at 0 plan.caps.items)) r.begun ended
-  s = r.settled
+module _ (g : Numbered) (plan : Plan) (ended : Load) (r : HasRun g plan ended) where
+  abbrev run_supplies : ℕ → Supply
+  run_supplies = load_supply (task_in g (at 0 plan.caps.items)) r.begun
 
-  abbrev supplies : ℕ → Supply
-  supplies = load_supply (task_in g (at 0 plan.caps.items)) r.begun
-
-  sends_is : (v : ℕ) → v < g.nodes → (supplies v).sends ≡ at (pos 0) plan.excess.items v
+  sends_is : (v : ℕ) → v < g.nodes → (run_supplies v).sends ≡ at (pos 0) plan.excess.items v
   sends_is v l =
       let none = net-zero g (as_flow (at 0 r.begun.flow.items)) v
       (λ k _. ap pos (r.first.still k)) in
@@ -154,9 +173,27 @@ module _ (g : Numbered) (bounds : Bounds) (plan : Plan) (ended : Load) (p : IsRe
       (at 0 r.begun.want.items v) (r.first.sends.each v l) (r.first.takes.each v l) in
       omega (arith, ints, none, parts)
 
+  -- what a node sends, with what is left over there and without what it wants still, is what it
+  -- has to
+  pub run_balance : (v : ℕ) → v < g.nodes
+      → (net g (as_flow (at 0 ended.flow.items)) v +ℤ pos (at 0 ended.excess.items v))
+      -ℤ pos (at 0 ended.want.items v) ≡ at (pos 0) plan.excess.items v
+  run_balance v l =
+      let is = r.settled.held.balance v l in
+      let sends = sends_is v l in
+      omega (arith, ints, is, sends)
+
+module _ (g : Numbered) (bounds : Bounds) (plan : Plan) (ended : Load) (p : IsReady g 0 plan)
+    (q : IsReadyFor g bounds plan) (r : HasRun g plan ended) where
+  abbrev s : HasSettled (task_in g (at 0 plan.caps.items)) r.begun ended
+  s = r.settled
+
+  abbrev supplies : ℕ → Supply
+  supplies = run_supplies g plan ended r
+
   needs : (v : ℕ) → v < g.nodes → (supplies v).sends ≡ bounds.supply v -ℤ net g bounds.lower v
   needs v l =
-      let is = sends_is v l in
+      let is = sends_is g plan ended r v l in
       let x = q.excess v l in
       omega (arith, ints, is, x)
 
@@ -169,7 +206,7 @@ module _ (g : Numbered) (bounds : Bounds) (plan : Plan) (ended : Load) (p : IsRe
       (let light = p.light v l in
       let down = light.0 in
       let up = light.1 in
-      let is = sends_is v l in
+      let is = sends_is g plan ended r v l in
       marked_most (set v) (supplies v).sends (weight g v) (omega (arith, ints, is, up))
       (omega (arith, ints, down, up)))) in
       omega (arith, ints, few, low)

@@ -16,7 +16,7 @@ use Rattle.flow_loads.specs.Loads.{HasSettled, IsLoaded}
 use Rattle.flow_rows.specs.Network.{IsNetwork}
 use Rattle.task_bounds.specs.declared.plan.Plan.{Plan}
 use Rattle.task_bounds.specs.Plan.{IsReady}
-use Rattle.flow_circulate.proofs.Answered.{begun_loaded, first_same}
+use Rattle.flow_circulate.proofs.Answered.{begun_loaded, begun_settled, first_same}
 use Rattle.flow_circulate.specs.Parts.{IsFirst}
 use Rattle.flow_circulate.specs.Runs.{HasRun}
 
@@ -32,30 +32,42 @@ pub all_at : (n : ℕ) (nodes : List Bool) → nodes ≡ replicate n true → (v
     → at false nodes v ≡ true
 all_at n nodes is v l = ap (λ xs. get_or xs v false) is ∙ get_or-replicate n v true false l
 
-module _ (g : Numbered) (plan : Plan) (p : IsReady g 0 plan) (ends : List Ends) (start : List ℕ)
-    (row : List Spoke) (net' : IsNetwork g ends start row) (values : List ℤ)
+module _ (g : Numbered) (plan : Plan) (p : IsReady g 0 plan) (values : List ℤ)
     (values_are : values ≡ plan.excess.items) (count : ℕ) (count_is : count ≡ g.arcs) (begun : Load)
     (begins : IsFirst (length values) count (at (pos 0) values) begun) where
   first_is : IsFirst g.nodes g.arcs (at (pos 0) plan.excess.items) begun
   first_is = first_same g.nodes g.arcs count plan.excess.items values begun values_are p.excess_all
       count_is begins
 
-  pub first_run : (caps : List ℕ) → caps ≡ plan.caps.items → IsLoaded ends start row caps begun
-  first_run caps same =
-      subst (λ xs. IsLoaded ends start row xs begun) (sym same)
-      (begun_loaded g plan p begun ends start row first_is net')
+  pub excess_begun : length begun.excess.items ≡ g.nodes
+  excess_begun = first_is.sends.all
 
-  pub has_run : (caps : List ℕ) → caps ≡ plan.caps.items → (ended : Load)
-      → HasSettled (task_of (length begun.height.items) ends caps) begun ended
-      → HasRun g plan ended
-  has_run caps same ended ran = record {
+  -- where nothing has to be sent, the run is over as it begins
+  pub has_rested : ((v : ℕ) → v < g.nodes → at 0 begun.excess.items v ≡ 0) → HasRun g plan begun
+  has_rested none = record {
     begun = begun;
     first = first_is;
-    settled = settled_in g ends start row net' plan.caps.items (length begun.height.items)
-        first_is.height_all begun ended
-        (subst (λ xs. HasSettled (task_of (length begun.height.items) ends xs) begun ended) same
-        ran);
+    settled = begun_settled g plan p begun first_is none;
   }
+
+  module _ (ends : List Ends) (start : List ℕ) (row : List Spoke)
+      (net' : IsNetwork g ends start row) (caps : List ℕ) (same : caps ≡ plan.caps.items) where
+    pub first_run : IsLoaded ends start row caps begun
+    first_run =
+        subst (λ xs. IsLoaded ends start row xs begun) (sym same)
+        (begun_loaded g plan p begun ends start row first_is net')
+
+    pub has_run : (ended : Load)
+        → HasSettled (task_of (length begun.height.items) ends caps) begun ended
+        → HasRun g plan ended
+    has_run ended ran = record {
+      begun = begun;
+      first = first_is;
+      settled = settled_in g ends start row net' plan.caps.items (length begun.height.items)
+          first_is.height_all begun ended
+          (subst (λ xs. HasSettled (task_of (length begun.height.items) ends xs) begun ended) same
+          ran);
+    }
 
 -- a value for each arc and each node is left
 module _ (g : Numbered) (plan : Plan) (ended : Load) (r : HasRun g plan ended) where

@@ -1,8 +1,9 @@
 -- What each answer shows.
-use Rattle.std.specs.Prelude.{◌≡◌, pos, false, length}
-use Rattle.plain_certificates.specs.Feasible.{Bounds, IsFeasible, IsBarrier}
+use Rattle.std.specs.Prelude.{◌≡◌, pos, length}
+use Rattle.plain_certificates.specs.Feasible.{Bounds, IsFeasible}
 use Rattle.plain_certificates.specs.Numbered.{Numbered}
 use Rattle.plain_certificates.specs.Tables.{at}
+use Rattle.task_bounds.specs.Answers.{ShowsNoFlow}
 use Rattle.flow_circulate.specs.declared.circulation.Circulation.{Circulation}
 use Rattle.flow_circulate.specs.declared.circulation.Circulation.TheVariants as answers
 
@@ -10,5 +11,4 @@ use Rattle.flow_circulate.specs.declared.circulation.Circulation.TheVariants as 
 abbrev pub Answers : Numbered → Bounds → Circulation → Type 0
 Answers g bounds (answers.Flow flow) =
     (length flow ≡ g.arcs) × IsFeasible g bounds (at (pos 0) flow)
-Answers g bounds (answers.Barrier b) =
-    (length b.nodes ≡ g.nodes) × IsBarrier g bounds b.over (at false b.nodes) b.supply b.limit
+Answers g bounds (answers.Barrier b) = ShowsNoFlow g bounds b

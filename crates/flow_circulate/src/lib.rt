@@ -4,4 +4,4 @@
 mod circulation;
 mod loads;
 
-pub use circulation::{Circulation, circulate};
+pub use circulation::{Circulation, barrier_at, circulate, run};

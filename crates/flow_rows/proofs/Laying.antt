@@ -38,6 +38,13 @@ module _ (g : Numbered) where
       let into = length-map (row_of g.to g.arcs v) (in_spoke g) in
       omega (arith, all, out, into)
 
+  pub spokes_next : (v : ℕ) → length (spokes_before g (v + 1))
+      ≡ length (spokes_before g v) + (length (out_spokes g v) + length (in_spokes g v))
+  spokes_next v =
+      let on = ap length (spokes_more v) ∙ length-append (spokes_before g v) (spokes_of g v) in
+      let here = length-append (out_spokes g v) (in_spokes g v) in
+      omega (arith, on, here)
+
   counted : (n : ℕ) → length (spokes_before g n)
       ≡ total_to n (λ v. length (row_of g.from g.arcs v))
       + total_to n (λ v. length (row_of g.to g.arcs v))

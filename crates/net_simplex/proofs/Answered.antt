@@ -16,12 +16,14 @@ use Rattle.plain_certificates.specs.Numbered.{Numbered, sum_to, sum_where}
 use Rattle.plain_certificates.specs.Tables.{at as flag_at}
 use Rattle.net_simplex.proofs.Barriers.{above_0, below_0, over, under}
 use Rattle.net_simplex.proofs.Ended.{basic, feasible, optimal}
-use Rattle.net_simplex.specs.Answers.{IsBest}
+use Rattle.plain_certificates.specs.Cheapest.{IsBasic}
+use Rattle.task_bounds.specs.Answers.{IsCheapest}
 use Rattle.task_bounds.specs.Excess.{IsExcess}
 use Rattle.net_simplex.specs.Network.{IsNetwork, IsWeighed}
 use Rattle.net_simplex.specs.Solved.{IsLast, IsEndless}
 use Rattle.task_bounds.specs.Given.{AreFlows}
-use Rattle.net_simplex.specs.Told.{ArePotentials, AreSides, IsSide}
+use Rattle.net_simplex.specs.Told.{AreSides, IsSide}
+use Rattle.task_bounds.specs.Potentials.{ArePotentials}
 use Rattle.task_bounds.specs.Barriers.{IsToldOf}
 
 -- ---- sides
@@ -56,14 +58,16 @@ module _ (g : Numbered) (bounds : Bounds) (excess : ℕ → ℤ) (t : Task) (c :
         → ((v : ℕ) → v < g.nodes → f (g.arcs + v) ≡ 0)
         → ((k : ℕ) → k < g.arcs → c k ≡ cost k)
         → total ≡ sum_to g.arcs (λ k. cost k *ℤ price_at flow k)
-        → IsBest g bounds cost flow pi total
-    is_best cost pi total prices none costs sum = record {
-      flow_all = flows.all;
-      pi_all = prices.all;
-      optimal = optimal g bounds excess t c h f y nw ex last.running (price_at flow) flow_is cost
-          (price_at pi) total none stop costs prices.each sum;
-      basic = basic g bounds excess t c h f y nw ex last.running (price_at flow) flow_is last.basic;
-    }
+        → IsCheapest g bounds cost flow pi total × IsBasic g bounds (price_at flow)
+    is_best cost pi total prices none costs sum = (
+      record {
+        flow_all = flows.all;
+        pi_all = prices.all;
+        optimal = optimal g bounds excess t c h f y nw ex last.running (price_at flow) flow_is cost
+            (price_at pi) total none stop costs prices.each sum;
+      },
+      basic g bounds excess t c h f y nw ex last.running (price_at flow) flow_is last.basic,
+    )
 
     -- or, of a run with other costs, a feasible flow
     pub is_feasible : ((v : ℕ) → v < g.nodes → f (g.arcs + v) ≡ 0)

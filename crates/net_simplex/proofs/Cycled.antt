@@ -9,7 +9,9 @@ use Rattle.plain_certificates.specs.Tables.{at}
 use Rattle.net_simplex.proofs.Climbed.{hangs_in}
 use Rattle.net_simplex.proofs.Endlessly.{met_arc, met_from, met_round, met_to}
 use Rattle.net_simplex.proofs.Frees.{endless_is_free, none_endless}
-use Rattle.net_simplex.specs.Cycles.{BeginsLeast, HangsIn, IsFree, round_of}
+use Rattle.pace_search.specs.Turns.{BeginsLeast}
+use Rattle.net_simplex.specs.Cycles.{HangsIn, round_of}
+use Rattle.task_bounds.specs.Answers.{IsFree}
 use Rattle.net_simplex.specs.Network.{IsWeighed}
 use Rattle.net_simplex.specs.Solved.{IsSolved}
 use Rattle.net_simplex.specs.declared.solved.Solved.{Solved}

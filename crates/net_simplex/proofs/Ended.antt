@@ -2,7 +2,7 @@
 use Rattle.std.proofs.Common.{◌≡◌, ◌≢◌, inl, inr, ℕ, ◌+◌, ◌<◌, ◌≤◌, ◌^◌, Bool, true, false}
 use Rattle.std.proofs.Common.{cond}
 use Rattle.std.proofs.Common.{eqb, ℤ, pos, neg_ℤ, ◌+ℤ◌, ◌-ℤ◌, List, [], ◌∷◌}
-use Rattle.std.proofs.Common.{All, Option, None, Some, ap, refl, arith}
+use Rattle.std.proofs.Common.{All, Option, None, Some, ap, arith}
 use Rattle.std.specs.Prelude.{unwrap_or}
 use Rattle.std.proofs.lemmas.Int.{ints}
 use Rattle.std.proofs.lemmas.Bool.Decides.{eqb_tells}
@@ -47,11 +47,6 @@ span_full l x None cap f span full free is =
     let few = free full in absurd (omega (arith, span, few))
 span_full l x (Some b) cap f span full free is =
     let sum = span.0 in (omega (arith, ints, sum, full, is), λ e. absurd cc)
-
--- an arc with much room has no upper bound
-pub span_open : (l : ℤ) (u : Option ℤ) (cap : ℕ) → IsSpan l u cap → 2 ^ 61 ≤ cap → u ≡ None
-span_open l None cap span much = refl
-span_open l (Some b) cap span much = let few = span.1 in absurd (omega (arith, few, much))
 
 none_added : (b : Bool) (n : ℕ) → n ≡ 0 → cond b (pos n) (neg_ℤ (pos n)) ≡ pos 0
 none_added true n e = omega (arith, ints, e)

@@ -1,25 +1,22 @@
 -- The endless cycle has no added arc, and may begin at the least of its arcs.
-use Rattle.std.proofs.Common.{◌≡◌, ◌⊎◌, inl, inr, ℕ, zero, suc, ◌+◌, ◌-◌, ◌*◌, ◌<◌, ◌≤◌, ◌^◌}
-use Rattle.std.proofs.Common.{Bool, true, eqb, ℤ, pos, neg_ℤ, ◌+ℤ◌, ◌<ℤ◌, ◌≤ℤ◌, All, List}
+use Rattle.std.proofs.Common.{◌≡◌, ◌⊎◌, inl, inr, ℕ, ◌+◌, ◌-◌, ◌*◌, ◌<◌, ◌≤◌, ◌^◌}
+use Rattle.std.proofs.Common.{true, ℤ, pos, neg_ℤ, ◌+ℤ◌, ◌<ℤ◌, ◌≤ℤ◌, All, List}
 use Rattle.std.proofs.Common.{[]}
-use Rattle.std.proofs.Common.{◌∷◌, ◌++◌, length, take, drop, refl, sym, ◌∙◌, ap, subst, arith}
-use Rattle.std.specs.Prelude.{nat_le}
-use Rattle.std.specs.List.{AllByRecursion, list_all}
+use Rattle.std.proofs.Common.{◌∷◌, ◌++◌, length, take, drop, sym, ◌∙◌, ap, subst, arith}
+use Rattle.std.specs.List.{AllByRecursion}
 use Rattle.std.proofs.lemmas.Int.{ints}
 use Rattle.std.proofs.lemmas.Bool.Decides.{nat_tests}
-use Rattle.std.proofs.lemmas.List.{get_or-drop, take-append-drop, length-drop, length-append}
-use Rattle.std.proofs.lemmas.List.{length-take, get_or-take}
+use Rattle.std.proofs.lemmas.List.{take-append-drop, length-append}
 use Rattle.std.proofs.lemmas.List.Elements.{All-from_recursion}
-use Rattle.std.proofs.lemmas.List.Folds.{list_all-append}
 use Rattle.std.proofs.lemmas.List.Sorted.{All-permutation, IsPermutation-append_comm}
-use Rattle.std.proofs.lemmas.Map.Keys.{IsDistinct-IsPermutation}
 use Rattle.plain_certificates.proofs.Walks.{round_turned, along_turned, walk_starts}
 use Rattle.plain_certificates.specs.Numbered.{Numbered}
-use Rattle.plain_certificates.specs.Tables.{at}
 use Rattle.plain_certificates.specs.Walks.{IsWalk, along, Differ, first_is_least}
 use Rattle.pivot_flow.specs.Tree.{Task}
 use Rattle.net_simplex.proofs.Rounds.{IsEndlessRound}
-use Rattle.net_simplex.specs.Cycles.{BeginsLeast, IsFree}
+use Rattle.pace_search.proofs.Rounded.{begins_least, differ_moved}
+use Rattle.pace_search.specs.Turns.{BeginsLeast}
+use Rattle.task_bounds.specs.Answers.{IsFree}
 use Rattle.net_simplex.specs.Network.{IsRooted, IsWeighed}
 
 -- what is known of each arc of the cycle, in the network and in the digraph
@@ -119,9 +116,6 @@ record IsClosed (g : Numbered) (P : ℕ → Type 0) (c : ℕ → ℤ) (arcs : Li
   each : All P arcs
   negative : along c arcs <ℤ pos 0
 
-eqb_turns : (a b : ℕ) → eqb a b ≡ eqb b a
-eqb_turns a b = grind (arith, nat_tests)
-
 -- it may begin at any of its places
 turned : (g : Numbered) (P : ℕ → Type 0) (c : ℕ → ℤ) (xs ys : List ℕ)
     → IsClosed g P c (xs ++ ys) → IsClosed g P c (ys ++ xs)
@@ -133,8 +127,7 @@ turned g P c xs ys round =
           let b = length-append xs ys in
           let d = length-append ys xs in
           omega (arith, a, b, d));
-      differ = IsDistinct-IsPermutation eqb eqb_turns (xs ++ ys) (ys ++ xs)
-          (IsPermutation-append_comm xs ys) round.differ;
+      differ = differ_moved (xs ++ ys) (ys ++ xs) (IsPermutation-append_comm xs ys) round.differ;
       node = moved.0;
       walk = moved.1;
       each = All-permutation P (xs ++ ys) (ys ++ xs) (IsPermutation-append_comm xs ys) round.each;
@@ -143,39 +136,6 @@ turned g P c xs ys round =
           let b = along_turned c xs ys in
           omega (arith, ints, a, b));
     }
-
-drop_cons : (xs : List ℕ) (place : ℕ) → place < length xs
-    → drop place xs ≡ at 0 xs place ∷ drop (suc place) xs
-drop_cons [] place l = absurd (omega (arith, l))
-drop_cons (x ∷ xs) zero l = refl
-drop_cons (x ∷ xs) (suc place) l = drop_cons xs place (omega (arith, l))
-
-all_where : (test : ℕ → Bool) (xs : List ℕ) → ((i : ℕ) → i < length xs → test (at 0 xs i) ≡ true)
-    → list_all test xs ≡ true
-all_where test [] each = refl
-all_where test (x ∷ xs) each =
-    rw (each 0 (omega arith)) (all_where test xs (λ i l. each (suc i) (omega (arith, l))))
-
-begins_least : (arcs turned : List ℕ) → BeginsLeast arcs turned → first_is_least turned ≡ true
-begins_least arcs turned begins =
-    let place = begins.place in
-    let l = begins.least.within in
-    let least = at 0 arcs place in
-    let all = length-drop (suc place) arcs in
-    let few = length-take place arcs in
-    let behind : list_all (nat_le least) (drop (suc place) arcs) ≡ true =
-    all_where (nat_le least) (drop (suc place) arcs) (λ i in_drop.
-    (let a = begins.least.least (suc place + i) (omega (arith, in_drop, all)) in
-    rw (get_or-drop (suc place) arcs i 0) (grind (arith, nat_tests, a)))) in
-    let before : list_all (nat_le least) (take place arcs) ≡ true =
-    all_where (nat_le least) (take place arcs) (λ i in_take.
-    (let in_place : i < place = omega (arith, in_take, few, l) in
-    let a = begins.least.least i (omega (arith, in_place, l)) in
-    rw (get_or-take place arcs i 0 in_place) (grind (arith, nat_tests, a)))) in
-    rw (begins.is, drop_cons arcs place l) (
-    rw (list_all-append (nat_le least) (drop (suc place) arcs) (take place arcs), behind, before)
-    refl
-    )
 
 cycle_of : (g : Numbered) (t : Task) (c : ℕ → ℤ) (arcs : List ℕ)
     → IsClosed g (IsFreeArc g t) c arcs → first_is_least arcs ≡ true → IsFree g t.cap c arcs

@@ -13,7 +13,6 @@ pub mod Frees
 pub mod Begun
 pub mod Climbed
 pub mod Answered
-pub mod Freed
 pub mod Endlessly
 pub mod Settled
 pub mod Solving

@@ -1,12 +1,7 @@
--- How the answers are made of what a run leaves.
-use Rattle.std.specs.Prelude.{◌≡◌, ℕ, ◌<◌, Bool, true, false, ℤ, pos, ◌-ℤ◌, ◌≤ℤ◌, ◌<ℤ◌, List}
+-- The sides of a barrier, made of what a run leaves.
+use Rattle.std.specs.Prelude.{◌≡◌, ℕ, ◌<◌, Bool, true, false, ℤ, pos, ◌≤ℤ◌, ◌<ℤ◌, List}
 use Rattle.std.specs.Prelude.{length}
 use Rattle.plain_certificates.specs.Tables.{at}
-
--- the potentials, as they stand to that of the first node
-pub record ArePotentials (n : ℕ) (price : ℕ → ℤ) (pi : List ℤ) : Type 0 where
-  pub all : length pi ≡ n
-  pub each : (v : ℕ) → v < n → at (pos 0) pi v ≡ price v -ℤ price 0
 
 -- whether a potential is on the side of a barrier: below 0 where it supplies too much, above 0
 -- where it supplies too little

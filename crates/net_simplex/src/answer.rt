@@ -8,7 +8,7 @@ ghost use Rattle.plain_certificates.specs.Tables.{at};
 ghost use Rattle.static_digraph.specs.Fixed.{graph_of};
 ghost use Rattle.task_bounds.specs.Given.{AreGiven, AreOrdered, IsValue, bounds_given};
 ghost use Rattle.net_simplex.specs.Answers.{Answers};
-ghost use Rattle.net_simplex.specs.Cycles.{IsFree};
+ghost use Rattle.task_bounds.specs.Answers.{IsFree};
 ghost use Rattle.net_simplex.specs.Network.{IsWeighed};
 ghost use Rattle.task_bounds.specs.Plan.{AreSmall, IsReady, IsReadyFor};
 ghost use Rattle.net_simplex.specs.Weights.{AreWeights};
@@ -16,12 +16,14 @@ ghost use Rattle.net_simplex.specs.Solved.{IsSolved};
 
 use crate::cycle::cycle_of;
 use crate::solved::{Solved, solve_network};
-use crate::told::{is_side, potentials_of, sides_of};
+use crate::told::{is_side, sides_of};
 use crate::weights::weights_of;
 use base_items::List;
 use static_digraph::{CostAnswer, Fixed};
 use std::alloc::{AllocError, Global};
-use task_bounds::{Plan, barrier_of, cost_along, cost_of, first_positive, flows_of, plan_of};
+use task_bounds::{
+    Plan, barrier_of, cost_along, cost_of, first_positive, flows_of, plan_of, potentials_of,
+};
 
 /// The barrier that a node whose added arc still carries something shows.
 fn barred(
@@ -71,7 +73,7 @@ fn settle(
         return barred(alloc, g, plan, solved, v);
     }
     let flow = flows_of(alloc, &plan.lower, &solved.flow.sent)?;
-    let pi = potentials_of(alloc, &solved.flow.price)?;
+    let pi = potentials_of(alloc, &solved.flow.price, g.node_count() as usize)?;
     let cost = cost_of(cost, &flow);
     Ok(CostAnswer::Optimal {
         flow: List::from_vec(flow),

@@ -2,10 +2,12 @@
 
 ghost use Rattle.std.specs.Prelude.{◌≡◌, ◌<◌, ◌++◌, length, IfOk, OnOk};
 ghost use Rattle.pivot_flow.specs.Tree.{ComesTo, ends_at, tree_of};
-ghost use Rattle.net_simplex.specs.Cycles.{BeginsLeast, HangsIn, IsLeastOf, round_of, ups_to};
+ghost use Rattle.net_simplex.specs.Cycles.{HangsIn, round_of, ups_to};
+ghost use Rattle.pace_search.specs.Turns.{BeginsLeast};
 
 use crate::solved::Solved;
 use base_items::List;
+use pace_search::least_first;
 use pivot_flow::Endless;
 use std::alloc::{AllocError, Global};
 
@@ -71,34 +73,6 @@ fn round(alloc: Global, solved: &Solved, endless: Endless) -> Result<Vec<u32>, A
     arcs.push(e)?;
     climb(&tree.parent, &tree.arc, &tree.depth, end.to, top, &mut arcs)?;
     Ok(arcs)
-}
-
-/// The place of the least of some numbers.
-fn least_place(numbers: &[u32]) -> usize
-    requires { 0 < length numbers.now }
-    ensures { IsLeastOf numbers.now (length numbers.now) result }
-{
-    let mut least = 0;
-    let mut place = 1;
-    while place < numbers.len() {
-        if numbers[place] < numbers[least] {
-            least = place;
-        }
-        place += 1;
-    }
-    least
-}
-
-/// The numbers from the least on.
-fn least_first(alloc: Global, numbers: &[u32]) -> Result<Vec<u32>, AllocError>
-    requires { 0 < length numbers.now }
-    ensures { IfOk result (λ turned. BeginsLeast numbers.now turned.items) }
-{
-    let place = least_place(numbers);
-    let mut turned = Vec::with_capacity(alloc, numbers.len())?;
-    turned.extend_from_slice(&numbers[place..])?;
-    turned.extend_from_slice(&numbers[..place])?;
-    Ok(turned)
 }
 
 /// The arcs of a cycle that an arc of the network closes, from the least on.

@@ -4,7 +4,8 @@ ghost use Rattle.std.specs.Prelude.{◌≡◌, ◌≢◌, ℕ, ◌+◌, ◌<◌,
 ghost use Rattle.plain_certificates.specs.Cuts.{IsCut};
 ghost use Rattle.plain_certificates.specs.Numbered.{sum_to, net};
 ghost use Rattle.plain_certificates.specs.Rooms.{as_flow};
-ghost use Rattle.push_flow.specs.Search.{side_of};
+ghost use Rattle.push_flow.specs.Held.{supply_of, IsHeld};
+ghost use Rattle.push_flow.specs.Search.{side_of, IsShut};
 ghost use Rattle.push_flow.specs.Slices.{at, ends_at, graph_of, spoke_at, task_of, AreRows};
 ghost use Rattle.push_flow.specs.Slices.{AreNodes};
 
@@ -13,6 +14,54 @@ use crate::settle::solve;
 
 /// More than all arcs together can carry.
 const ALL: u64 = 4611686018427387904;
+
+/// `solve` from height 0, which is over at once where no node has excess. `none` has zeros.
+fn send_back(
+    ends: &[Ends],
+    cap: &[u64],
+    flow: &mut [u64],
+    start: &[u32],
+    row: &[Spoke],
+    excess: &mut [u64],
+    want: &mut [u64],
+    before: &mut [u32],
+    height: &mut [u32],
+    queue: &mut [u32],
+    ring: &mut [u32],
+    none: &[u64],
+)
+    requires sizes { (length cap.now ≡ length ends.now) × (length flow.old ≡ length ends.now) }
+    requires lens { (length want.old ≡ length height.old)
+        × (length excess.old ≡ length height.old) × (length ring.old ≡ length height.old)
+        × (length start.now ≡ length height.old + 1) × (length height.old ≤ 2 ^ 20) }
+    requires more { (length before.old ≡ length height.old)
+        × (length queue.old ≡ length height.old) }
+    requires ends_in { (k : ℕ) → k < length ends.now
+        → ((ends_at ends.now k).from < length height.old)
+        × ((ends_at ends.now k).to < length height.old) }
+    requires rows { AreRows (task_of (length height.old) ends.now cap.now) (at start.now)
+        (spoke_at row.now) (length row.now) }
+    requires held { let t = task_of (length height.old) ends.now cap.now in IsHeld t
+        (supply_of t (at flow.old) (at excess.old) (at want.old)) (at flow.old) (at excess.old)
+        (at want.old) (at height.old) }
+    requires ring { AreNodes (length height.old) ring.old }
+    requires low { (v : ℕ) → at height.old v ≡ 0 }
+    requires zeros { (v : ℕ) → at none.now v ≡ 0 }
+    ensures held { let t = task_of (length height.old) ends.now cap.now in IsHeld t
+        (supply_of t (at flow.old) (at excess.old) (at want.old)) (at flow.new) (at excess.new)
+        (at want.new) (at height.new) }
+    ensures shut { IsShut (task_of (length height.old) ends.now cap.now) (at flow.new)
+        (at height.new) }
+    ensures quiet { (v : ℕ) → v < length height.old → at height.new v < length height.old
+        → at excess.new v ≡ 0 }
+{
+    if &*excess == none {
+        return;
+    }
+    solve(
+        ends, cap, flow, start, row, excess, want, before, height, queue, ring,
+    );
+}
 
 /// Sends as much as can be from `source` to `target`, and finds a least cut.
 ///
@@ -74,7 +123,7 @@ pub fn find_cut(
     want.copy_from_slice(none);
     want[source as usize] = ALL;
     height.copy_from_slice(low);
-    solve(
-        ends, cap, flow, start, row, excess, want, before, height, queue, ring,
+    send_back(
+        ends, cap, flow, start, row, excess, want, before, height, queue, ring, none,
     );
 }

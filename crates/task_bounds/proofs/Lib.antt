@@ -3,3 +3,4 @@ pub mod Weighing
 pub mod Taking
 pub mod Summing
 pub mod Readied
+pub mod Freed

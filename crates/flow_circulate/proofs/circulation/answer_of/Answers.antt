@@ -1,88 +1,21 @@
-use Rattle.std.proofs.Common.{◌<◌, ◌≤◌, ◌^◌, ◌∙◌, ℕ, List, length, map, eqb, pos, true, false}
-use Rattle.std.proofs.Common.{sym, ap, subst, replicate, arith}
-use Rattle.std.proofs.lemmas.List.{length-map, length-replicate}
+use Rattle.std.proofs.Common.{◌<◌, ◌≤◌, ◌^◌, ◌∙◌, ℕ, List, length, pos}
+use Rattle.std.proofs.Common.{sym, ap, subst, arith}
 use Rattle.plain_certificates.specs.Tables.{at}
 use Rattle.static_digraph.specs.Fixed.{graph_of}
 use Rattle.task_bounds.specs.Given.{IsValue}
-use Rattle.flow_circulate.proofs.Answered.{is_feasible, is_over, is_under, sent_few}
-use Rattle.flow_circulate.proofs.Found.{none_found, some_found}
-use Rattle.flow_circulate.proofs.Runs.{all_at, excess_long, flow_long, height_long, top_side}
-use Rattle.flow_circulate.proofs.Runs.{want_long}
+use Rattle.flow_circulate.proofs.Answered.{is_feasible, sent_few}
+use Rattle.flow_circulate.proofs.Runs.{flow_long}
+use Rattle.std.specs.Prelude.{MatchOption}
+use Rattle.task_bounds.specs.Answers.{ShowsNoFlow}
+use Rattle.flow_circulate.specs.Runs.{IsMet}
 use Rattle.flow_circulate.proofs.circulation.answer_of.Goals as goal
-
-pub barrier_of-barrier-requires : goal.barrier_of-barrier-requires
-barrier_of-barrier-requires c =
-    let g = graph_of c.args.g.now in
-    let ended = c.args.ended.now in
-    record {
-      nodes = ap length c.in_ok-side.ensures
-          ∙ (length-map c.deref-in-Some.result.now (λ h. eqb h c.node_count-nodes.result)
-          ∙ (ap length c.deref-in-Some.ensures.value
-          ∙ height_long g c.args.plan.now ended c.requires.ran));
-      lower = c.requires.ready.lower;
-      upper = c.requires.ready.upper;
-      supply = c.requires.ready.supply;
-    }
 
 pub returns-in-Some : goal.returns-in-Some
 returns-in-Some c =
     let g = graph_of c.args.g.now in
-    let plan = c.args.plan.now in
-    let ended = c.args.ended.now in
-    let heights = ended.height.items in
-    let count = c.node_count-nodes.ensures.count in
-    let run = c.requires.ran in
-    let b = c.barrier_of-barrier.result in
-    let told = c.barrier_of-barrier.ensures.told in
-    let side = c.in_ok-side.ensures
-    ∙ (ap (λ (xs : List ℕ). map (λ h. eqb h c.node_count-nodes.result) xs)
-    c.deref-in-Some.ensures.value
-    ∙ ap (λ (n : ℕ). map (λ h. eqb h n) heights) count) in
-    let nodes = c.barrier_of-barrier.ensures.nodes ∙ side in
-    let some = some_found g.nodes ended.excess.items c.deref.result.now c.deref.ensures.value
-    (excess_long g plan ended run) c.first_positive.result c.first_positive.ensures.found
-    c.in-Some._left c.in-Some.is in
-    let inside = some.0 in
     λ bounds task.
-    (let set = ap (at false) nodes ∙ top_side g.nodes heights (omega (arith, inside)) in
-    let shown = is_over g bounds plan ended c.requires.ready task run b told set c.in-Some._left
-    some.0 some.1 in (
-      ap length nodes ∙ (length-map heights (λ h. eqb h g.nodes) ∙ height_long g plan ended run),
-      rw told.over_is shown,
-    ))
-
-pub barrier_of-lack-requires : goal.barrier_of-lack-requires
-barrier_of-lack-requires c = record {
-  nodes = ap length c.from_vec-set.ensures
-      ∙ (ap length (c.in_ok-all.ensures.items_if_clones_equal (λ y e. e))
-      ∙ (length-replicate c.node_count-nodes.result true ∙ c.node_count-nodes.ensures.count));
-  lower = c.requires.ready.lower;
-  upper = c.requires.ready.upper;
-  supply = c.requires.ready.supply;
-}
-
-pub returns-in-Some-first_positive : goal.returns-in-Some-first_positive
-returns-in-Some-first_positive c =
-    let g = graph_of c.args.g.now in
-    let plan = c.args.plan.now in
-    let ended = c.args.ended.now in
-    let count = c.node_count-nodes.ensures.count in
-    let run = c.requires.ran in
-    let b = c.barrier_of-lack.result in
-    let told = c.barrier_of-lack.ensures.told in
-    let set = c.barrier_of-lack.ensures.nodes
-    ∙ (c.from_vec-set.ensures
-    ∙ (c.in_ok-all.ensures.items_if_clones_equal (λ y e. e) ∙ ap (λ n. replicate n true) count)) in
-    let none = none_found g.nodes ended.excess.items c.deref.result.now c.deref.ensures.value
-    (excess_long g plan ended run) c.first_positive.result c.first_positive.ensures.found
-    c.in_default.not-Some in
-    let some = some_found g.nodes ended.want.items c.deref-2.result.now c.deref-2.ensures.value
-    (want_long g plan ended run) c.first_positive-2.result c.first_positive-2.ensures.found
-    c.in-Some-first_positive._wanted c.in-Some-first_positive.is in
-    λ bounds task.
-    (let shown = is_under g bounds plan ended c.requires.ready task run b told
-    (all_at g.nodes b.nodes set) none c.in-Some-first_positive._wanted some.0 some.1 in
-    (ap length set ∙ length-replicate g.nodes true, rw told.over_is shown))
+    subst (λ found. MatchOption found (IsMet g c.args.ended.now) (ShowsNoFlow g bounds))
+    c.in-Some.is (c.in_ok-barrier.ensures bounds task)
 
 pub flows_of-requires : goal.flows_of-requires
 flows_of-requires c =
@@ -91,17 +24,17 @@ flows_of-requires c =
     let ended = c.args.ended.now in
     let p = c.requires.ready in
     let all = p.lower.all in
-    let lower = ap length c.deref-3.ensures.value ∙ p.lower.all in
-    let sent = ap length c.deref-4.ensures.value ∙ flow_long g plan ended c.requires.ran in
+    let lower = ap length c.deref.ensures.value ∙ p.lower.all in
+    let sent = ap length c.deref-2.ensures.value ∙ flow_long g plan ended c.requires.ran in
     record {
       sizes = omega (arith, lower, sent);
       lower =
           subst (λ xs. (k : ℕ) → k < length xs → IsValue (at (pos 0) xs k))
-          (sym c.deref-3.ensures.value)
+          (sym c.deref.ensures.value)
           (λ k l. p.lower.small k (omega (arith, l, all)));
       sent =
-          subst (λ (xs : List ℕ). (k : ℕ) → k < length c.deref-3.result.now → at 0 xs k ≤ 2 ^ 62)
-          (sym c.deref-4.ensures.value)
+          subst (λ (xs : List ℕ). (k : ℕ) → k < length c.deref.result.now → at 0 xs k ≤ 2 ^ 62)
+          (sym c.deref-2.ensures.value)
           (λ k l. sent_few g plan ended p c.requires.ran k (omega (arith, l, lower)));
     }
 
@@ -112,16 +45,14 @@ returns c =
     let ended = c.args.ended.now in
     let p = c.requires.ready in
     let run = c.requires.ran in
-    let flows = rw (c.deref-3.ensures.value, c.deref-4.ensures.value, p.lower.all) at
+    let flows = rw (c.deref.ensures.value, c.deref-2.ensures.value, p.lower.all) at
     c.in_ok-flow.ensures in
-    let no_excess = none_found g.nodes ended.excess.items c.deref.result.now
-    c.deref.ensures.value (excess_long g plan ended run) c.first_positive.result
-    c.first_positive.ensures.found c.in_default.not-Some in
-    let no_want = none_found g.nodes ended.want.items c.deref-2.result.now
-    c.deref-2.ensures.value (want_long g plan ended run) c.first_positive-2.result
-    c.first_positive-2.ensures.found c.in_default-first_positive.not-Some in
     λ bounds task.
+    (let met : IsMet g ended =
+    subst (λ found. MatchOption found (IsMet g ended) (ShowsNoFlow g bounds))
+    c.in_default.is (c.in_ok-barrier.ensures bounds task) in
     rw c.from_vec.ensures (
       flows.all,
-      is_feasible g bounds plan ended p task run c.in_ok-flow.flow.items flows no_excess no_want,
-    )
+      is_feasible g bounds plan ended p task run c.in_ok-flow.flow.items flows met.none_left
+          met.none_wanted,
+    ))

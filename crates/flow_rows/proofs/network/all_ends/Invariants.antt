@@ -1,4 +1,4 @@
-use Rattle.std.proofs.Common.{◌≡◌, ◌-◌, ◌≤◌, map}
+use Rattle.std.proofs.Common.{◌≡◌, ◌-◌, ◌≤◌, length, map, take}
 use Rattle.std.specs.List.{range_with_len}
 use Rattle.static_digraph.specs.Fixed.{graph_of}
 use Rattle.flow_rows.specs.Laid.{ends_in}
@@ -7,7 +7,8 @@ use Rattle.flow_rows.proofs.network.all_ends.Given as goal
 abbrev pub invariant-loop-arc : goal.invariant-loop-arc
 invariant-loop-arc l = record {
   below : l.arc ≤ l.arcs;
-  listed : l.ends.items ≡ map (ends_in (graph_of l.g)) (range_with_len 0 l.arc);
+  long : length l.ends.items ≡ l.arcs;
+  listed : take l.arc l.ends.items ≡ map (ends_in (graph_of l.g)) (range_with_len 0 l.arc);
 }
 
 abbrev pub decreases-loop-arc : goal.decreases-loop-arc

@@ -63,8 +63,12 @@ returns c =
     let barrier = is_barrier g bounds (at (pos 0) plan.excess.items) t (at (pos 0) weights) h
     (at 0 run.flow.sent.items) y run.endless network task.excess last c.requires.stopped
     (at (pos 0) plan.lower.items) (at (pos 0) plan.upper.items) (at (pos 0) plan.supply.items)
-    task.lower weighed task.upper task.supply b over v told sides node c.requires.short low in (
-      sides.all,
-      subst (λ o. IsBarrier g bounds o (at false b.nodes) b.supply b.limit) (sym told.over_is)
-          barrier,
-    ))
+    task.lower weighed task.upper task.supply b over v told sides node c.requires.short low in
+    record {
+      shows = (
+        sides.all,
+        subst (λ o. IsBarrier g bounds o (at false b.nodes) b.supply b.limit) (sym told.over_is)
+            barrier,
+      );
+      basic = tt;
+    })

@@ -6,7 +6,7 @@ use Rattle.pivot_flow.specs.Tree.{task_of, tree_of}
 use Rattle.plain_certificates.specs.Tables.{at}
 use Rattle.static_digraph.specs.Fixed.{graph_of}
 use Rattle.net_simplex.proofs.Answered.{is_feasible}
-use Rattle.net_simplex.proofs.Freed.{is_free_cycle, told_free}
+use Rattle.task_bounds.proofs.Freed.{is_free_cycle, told_free}
 use Rattle.net_simplex.proofs.Settled.{short_found, short_none}
 use Rattle.task_bounds.specs.Given.{IsValue}
 use Rattle.net_simplex.specs.Network.{IsNetwork}
@@ -96,9 +96,13 @@ returns c =
     solved.last c.requires.stopped (at (pos 0) plan.lower.items) (at (pos 0) plan.upper.items)
     (at (pos 0) plan.supply.items) task.lower flow flows none in
     let fits : FitsSigned w128 c.cost_along-total.result = search rules in
-    told_free g bounds cost flow c.from_vec.result c.args.cycle.items c.from_vec-2.result
-    c.cost_along-total.result (to_z w128 (of_z w128 c.cost_along-total.result)) c.from_vec.ensures
-    c.from_vec-2.ensures (to_z-of_z w128 c.cost_along-total.result fits) flows.all
-    (is_free_cycle g (at 0 plan.caps.items) bounds cost (at (pos 0) flow) c.args.cycle.items
-    c.cost_along-total.result task.spans c.requires.cycle feasible
-    (rw c.deref-4.ensures.value at c.cost_along-total.ensures)))
+    record {
+      shows = told_free g bounds cost flow c.from_vec.result c.args.cycle.items c.from_vec-2.result
+          c.cost_along-total.result (to_z w128 (of_z w128 c.cost_along-total.result))
+          c.from_vec.ensures c.from_vec-2.ensures (to_z-of_z w128 c.cost_along-total.result fits)
+          flows.all
+          (is_free_cycle g (at 0 plan.caps.items) bounds cost (at (pos 0) flow) c.args.cycle.items
+          c.cost_along-total.result task.spans c.requires.cycle feasible
+          (rw c.deref-4.ensures.value at c.cost_along-total.ensures));
+      basic = tt;
+    })

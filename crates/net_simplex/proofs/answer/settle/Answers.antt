@@ -1,4 +1,4 @@
-use Rattle.std.proofs.Common.{◌≤◌, ◌<◌, ◌^◌, ◌∙◌, ℕ, length, pos, sym, ap, subst}
+use Rattle.std.proofs.Common.{◌≤◌, ◌<◌, ◌^◌, ℕ, length, pos, sym, ap, subst}
 use Rattle.std.proofs.Common.{FitsSigned, arith, rules}
 use Rattle.std.specs.Int.{w128}
 use Rattle.std.proofs.lemmas.Int.{to_z-of_z}
@@ -64,11 +64,12 @@ flows_of-requires-clause-sent c =
     c.args.weights.now c.args.solved.now c.requires.ready.caps c.requires.solved k
     (omega (arith, l, all, size)))
 
-pub potentials_of-requires-clause-some : goal.potentials_of-requires-clause-some
-potentials_of-requires-clause-some c =
+pub potentials_of-requires-clause-sizes : goal.potentials_of-requires-clause-sizes
+potentials_of-requires-clause-sizes c =
     let price = ap length c.deref-4.ensures.value in
     let all = c.requires.solved.price_all in
-    omega (arith, price, all)
+    let count = c.node_count.ensures.count in
+    omega (arith, price, all, count)
 
 pub potentials_of-requires-clause-small : goal.potentials_of-requires-clause-small
 potentials_of-requires-clause-small c =
@@ -134,14 +135,20 @@ returns c =
     let all = c.requires.cost.all in
     let flows = rw (c.deref-2.ensures.value, c.deref-3.ensures.value, ready.lower.all) at
     c.in_ok-flow.ensures in
-    let potentials = rw c.deref-4.ensures.value at
-    (c.in_ok-pi.ensures g.nodes (ap length c.deref-4.ensures.value ∙ solved.price_all)) in
+    let potentials = rw (c.node_count.ensures.count, c.deref-4.ensures.value) at
+    c.in_ok-pi.ensures in
     let sum = c.cost_of-cost.ensures in
     let fits : FitsSigned w128 c.cost_of-cost.result = search rules in
-    rw (c.from_vec.ensures, c.from_vec-2.ensures, to_z-of_z w128 c.cost_of-cost.result fits)
-    (is_best g bounds (at (pos 0) plan.excess.items) t (at (pos 0) weights) h
+    let best = is_best g bounds (at (pos 0) plan.excess.items) t (at (pos 0) weights) h
     (at 0 run.flow.sent.items) y run.endless network task.excess last c.requires.stopped
     (at (pos 0) plan.lower.items) (at (pos 0) plan.upper.items) (at (pos 0) plan.supply.items)
     task.lower flow flows (at (pos 0) cost) pi c.cost_of-cost.result potentials none
-    c.requires.weights.inner
-    (rw (all, c.deref-5.ensures.value) at sum)))
+    c.requires.weights.inner (rw (all, c.deref-5.ensures.value) at sum) in
+    record {
+      shows = rw (
+        c.from_vec.ensures,
+        c.from_vec-2.ensures,
+        to_z-of_z w128 c.cost_of-cost.result fits,
+      ) best.0;
+      basic = rw c.from_vec.ensures best.1;
+    })

@@ -3,7 +3,7 @@ use Rattle.std.specs.Option.{option_copied}
 use Rattle.plain_certificates.specs.Tables.{at}
 use Rattle.static_digraph.specs.Fixed.{graph_of}
 use Rattle.net_simplex.proofs.Cycled.{from_climbs, hung, inside, is_free, to_climbs}
-use Rattle.net_simplex.proofs.Freed.{free_same}
+use Rattle.task_bounds.proofs.Freed.{free_same}
 use Rattle.net_simplex.proofs.Settled.{weighed_by}
 use Rattle.task_bounds.specs.Given.{bounds_given}
 use Rattle.task_bounds.specs.Plan.{AreSmall, IsReady}

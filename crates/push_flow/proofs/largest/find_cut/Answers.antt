@@ -36,8 +36,8 @@ solve-requires-clause-held c =
     (start_held t F (at c.args.excess.now) (at c.args.want.now) H s tt nodes.0 nodes.2 zero.0 zero.1
     zero.2 zero.3))
 
-pub solve-requires-2-clause-held : goal.solve-requires-2-clause-held
-solve-requires-2-clause-held c =
+pub send_back-requires-clause-held : goal.send_back-requires-clause-held
+send_back-requires-clause-held c =
     let n = length c.args.height.now in
     let t = task_of n c.args.ends.now c.args.cap.now in
     let s = c.args.source in
@@ -135,8 +135,8 @@ returns c =
     let z_is = at-set Z s (2 ^ 62) in_z in
     let e2 = set_at (at new.excess) s 0 in
     let w2 = set_at (at Z) s (2 ^ 62) in
-    let last = c.solve-2.new in
-    let held = rw lens_l at c.solve-2.ensures.held in
+    let last = c.send_back.new in
+    let held = rw lens_l at c.send_back.ensures.held in
     let none : at Z ≡ (λ (v : ℕ). 0) = (λ j v. z0 v j) in
     let st' : IsHeld t (supply_of t (at new.flow) e2 (set_at (λ _. 0) s (2 ^ 62))) (at last.flow)
     (at last.excess) (at last.want) (at last.height) =
@@ -155,7 +155,7 @@ returns c =
     (supply_of t F e1 w1) (at new.flow) (at new.excess) (at new.want) (at new.height) asked st
     c.solve.ensures.shut c.solve.ensures.quiet
     (at last.flow) (at last.excess) (at last.want) (at last.height) st'
-    (rw lens_l at c.solve-2.ensures.shut) (rw lens_l at c.solve-2.ensures.quiet) in
+    (rw lens_l at c.send_back.ensures.shut) (rw lens_l at c.send_back.ensures.quiet) in
     let side : c.copy_from_slice.new.self ≡ new.height = c.copy_from_slice.ensures.after in
     subst (λ (x : List ℕ).
     IsCut t.graph (as_flow t.cap) s tt (as_flow (at last.flow)) (side_of n (at x))

@@ -3,15 +3,17 @@ use Rattle.std.proofs.Math.ListN.{length-set}
 use Rattle.std.proofs.lemmas.Int.{ints}
 use Rattle.plain_certificates.specs.Tables.{at}
 use Rattle.task_bounds.proofs.Filled.{set_more}
-use Rattle.net_simplex.proofs.told.potentials_of.Goals as goal
+use Rattle.task_bounds.proofs.potentials.potentials_of.Goals as goal
 
 pub loop-v-preserved : goal.loop-v-preserved
 loop-v-preserved c =
     let was = c.loop-v.invariant in
     let all = was.all in
     let v = c.loop-v.v in
-    let some = c.requires.some in
-    let inside : v < length c.args.price.now = omega arith in
+    let sizes = c.requires.sizes in
+    let turn = c.loop-v.far-v in
+    let inside : v < length c.args.price.now = omega (arith, sizes, turn) in
+    let some : 0 < length c.args.price.now = omega (arith, inside) in
     let pi = to_z w64 (of_z w64 c.above.result) in
     let is = c.above.ensures in
     let here = c.requires.small v inside in

@@ -1,6 +1,6 @@
--- A free cycle by the costs of the task, and with a feasible flow.
+-- Free cycles: by other costs, and told with a feasible flow.
 use Rattle.std.proofs.Common.{◌≡◌, ℕ, ◌<◌, ◌≤◌, ◌^◌, ℤ, pos, All, List, [], ◌∷◌, length}
-use Rattle.std.proofs.Common.{refl, arith}
+use Rattle.std.proofs.Common.{Option, None, Some, refl, arith}
 use Rattle.std.proofs.lemmas.Int.{ints}
 use Rattle.std.proofs.lemmas.List.Elements.{All-head, All-tail}
 use Rattle.plain_certificates.specs.Cheapest.{IsFreeCycle}
@@ -8,9 +8,13 @@ use Rattle.plain_certificates.specs.Feasible.{Bounds, IsFeasible}
 use Rattle.plain_certificates.specs.Numbered.{Numbered}
 use Rattle.plain_certificates.specs.Tables.{at}
 use Rattle.plain_certificates.specs.Walks.{along}
-use Rattle.net_simplex.proofs.Ended.{span_open}
-use Rattle.net_simplex.specs.Cycles.{IsFree}
+use Rattle.task_bounds.specs.Answers.{IsFree}
 use Rattle.task_bounds.specs.Given.{IsSpan}
+
+-- an arc with much room has no upper bound
+pub span_open : (l : ℤ) (u : Option ℤ) (cap : ℕ) → IsSpan l u cap → 2 ^ 61 ≤ cap → u ≡ None
+span_open l None cap span much = refl
+span_open l (Some b) cap span much = let few = span.1 in absurd (omega (arith, few, much))
 
 module _ (g : Numbered) (cap : ℕ → ℕ) where
   along_same : (c cost : ℕ → ℤ) → ((k : ℕ) → k < g.arcs → c k ≡ cost k) → (xs : List ℕ)
