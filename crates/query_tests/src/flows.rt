@@ -1,9 +1,8 @@
-//! Cheapest flows by the network simplex method, against answers worked out by hand.
+//! Cheapest flows, found either way, against answers worked out by hand.
 
-use crate::bounds::{are_given, are_ordered, are_values};
 use crate::tasks::digraph;
 use crate::texts::{push_barrier, push_values};
-use net_simplex::simplex;
+use crate::ways::{Way, found};
 use static_digraph::CostAnswer;
 use std::alloc::{AllocError, Global};
 use std::fmt::Write;
@@ -161,35 +160,20 @@ fn push_answer(text: &mut String, answer: &CostAnswer) -> Result<(), AllocError>
     Ok(())
 }
 
-// What `simplex` finds; None where the row is no task for it.
-fn cheapest(alloc: Global, row: &Row) -> Result<Option<String>, AllocError> {
+// What is found one way, as a row has it; None where the row is no task.
+fn told(alloc: Global, way: Way, row: &Row) -> Result<Option<String>, AllocError> {
     let Some(g) = digraph(alloc, row.nodes, row.arcs) else {
         return Ok(None);
     };
-    let nodes = g.node_count() as usize;
-    let arcs = g.arc_count() as usize;
-    if row.cost.len() != arcs || !are_values(row.cost) {
+    let Some(answer) = found(alloc, way, &g, row.lower, row.upper, row.cost, row.supply)? else {
         return Ok(None);
-    }
-    if !are_given(row.lower, arcs) {
-        return Ok(None);
-    }
-    if !are_given(row.upper, arcs) {
-        return Ok(None);
-    }
-    if !are_given(row.supply, nodes) {
-        return Ok(None);
-    }
-    if !are_ordered(row.lower, row.upper, arcs) {
-        return Ok(None);
-    }
+    };
     let mut text = String::new(alloc);
-    let answer = simplex(alloc, &g, row.lower, row.upper, row.cost, row.supply)?;
     push_answer(&mut text, &answer)?;
     Ok(Some(text))
 }
 
-// The text that was found is the row's.
+// The text that was found one way is the row's.
 fn is_found(rt: &impl Abort, row: &Row, found: Option<String>) {
     let Some(text) = found else {
         panic!(rt; "no task: {:?} at {:?}", row.arcs, row.cost);
@@ -200,7 +184,8 @@ fn is_found(rt: &impl Abort, row: &Row, found: Option<String>) {
 #[test]
 fn cheapest_flows(rt: HostRuntime) -> Result<(), Fail> {
     for row in &FLOWS {
-        is_found(&rt, row, cheapest(rt.alloc(), row)?);
+        is_found(&rt, row, told(rt.alloc(), Way::Simplex, row)?);
+        is_found(&rt, row, told(rt.alloc(), Way::Cancelling, row)?);
     }
     Ok(())
 }
@@ -208,7 +193,8 @@ fn cheapest_flows(rt: HostRuntime) -> Result<(), Fail> {
 #[test]
 fn barriers_where_supplies_do_not_add_up(rt: HostRuntime) -> Result<(), Fail> {
     for row in &BARRIERS {
-        is_found(&rt, row, cheapest(rt.alloc(), row)?);
+        is_found(&rt, row, told(rt.alloc(), Way::Simplex, row)?);
+        is_found(&rt, row, told(rt.alloc(), Way::Cancelling, row)?);
     }
     Ok(())
 }
@@ -216,7 +202,8 @@ fn barriers_where_supplies_do_not_add_up(rt: HostRuntime) -> Result<(), Fail> {
 #[test]
 fn free_cycles_from_their_least_arc(rt: HostRuntime) -> Result<(), Fail> {
     for row in &CYCLES {
-        is_found(&rt, row, cheapest(rt.alloc(), row)?);
+        is_found(&rt, row, told(rt.alloc(), Way::Simplex, row)?);
+        is_found(&rt, row, told(rt.alloc(), Way::Cancelling, row)?);
     }
     Ok(())
 }

@@ -11,6 +11,8 @@ mod circulations;
 #[cfg(test)]
 mod cuts;
 #[cfg(test)]
+mod drawn;
+#[cfg(test)]
 mod flows;
 #[cfg(test)]
 mod paces;
@@ -21,5 +23,7 @@ mod paths;
 mod tasks;
 #[cfg(test)]
 mod texts;
+#[cfg(test)]
+mod ways;
 
 pub use tasks::{are_within, digraph};

@@ -1,0 +1,13 @@
+pub mod RoomCases
+pub mod LengthCases
+pub mod CostLengths
+pub mod DropLengths
+pub mod Least
+pub mod Moves
+pub mod Onward
+pub mod Pushed
+pub mod Evened
+pub mod Lowers
+pub mod Feasibly
+pub mod Levelled
+pub mod Endings
