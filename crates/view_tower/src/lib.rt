@@ -19,5 +19,6 @@ pub use layers::{Layer, Origin, arc_from, base_of};
 pub use level::{How, Level, Level1, Level2, Level3, Level4, Level5, Level6, Level7, Level8};
 pub use marks::{arc_marks, node_marks};
 pub use over::{Over, Tower, tower};
+pub use pulled::{arc_int_at, node_bool_at, node_int_at};
 pub use stack::four;
 pub use values::Values;

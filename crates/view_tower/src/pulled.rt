@@ -10,6 +10,16 @@ ghost use Rattle.view_tower.specs.Origins as origins;
 use crate::layers::{Layer, Origin, arc_from, base_of};
 use crate::values::Values;
 
+/// The int of a node map at a node of the tower.
+pub fn node_int_at<V: Values>(layers: &[Layer], values: &V, map: u32, node: u32) -> i64
+    requires map { V.has_int values.now sorts.Node map ≡ true }
+    requires live { V.is_live values.now sorts.Node
+        (towers.base_node (tower_of layers.now) node) ≡ true }
+    ensures { result ≡ towers.node_int (V.values values.now) (tower_of layers.now) map node }
+{
+    values.node_int(map, base_of(layers, node))
+}
+
 /// The bool of a node map at a node of the tower.
 pub fn node_bool_at<V: Values>(layers: &[Layer], values: &V, map: u32, node: u32) -> bool
     requires map { V.has_bool values.now sorts.Node map ≡ true }
