@@ -2,6 +2,7 @@
 use Rattle.std.proofs.Common.{◌≡◌, ℕ, List, ◌∷◌, [], length, Some, None, inl, inr, sym, ap, ◌∙◌}
 use Rattle.std.proofs.Common.{subst, arith}
 use Rattle.std.specs.Prelude.{codes}
+use Rattle.std.specs.Str.Parse.{digits_value}
 use Rattle.edge_io.specs.Files.{Files, Holds, HoldsWithin, Lacks, IsTooLong}
 use Rattle.lgf_file.specs.Documents.{Spells}
 use Rattle.lgf_file.specs.Laws.{HasFault}
@@ -10,7 +11,7 @@ use Rattle.lgf_file.specs.declared.faults.LgfFault.{LgfFault}
 use Rattle.lgf_file.proofs.SectionsRead.{one_document}
 use Rattle.lgf_file.proofs.FirstFaults.{one_fault, fault_spells_none}
 use Rattle.plain_machine.specs.declared.limits.TheConstants.{GRAPH_LIMIT, SCRIPT_LIMIT}
-use Rattle.plain_machine.specs.Words.{RunOn, Asks}
+use Rattle.plain_machine.specs.Words.{RunOn, Asks, AsksGraph, AsksDrill}
 use Rattle.plain_machine.specs.Inputs.{HasGraph, HasBadGraph, LacksNeeded, HasTooLong}
 
 -- ---- names
@@ -23,6 +24,55 @@ same_names words graph script other another h k =
     let e : codes "run" ∷ graph ∷ script ∷ [] ≡ codes "run" ∷ other ∷ another ∷ [] =
     sym h.0 ∙ k.0 in
     (cc, cc)
+
+-- They ask for one graph at most.
+pub same_numbers : (words : List (List ℕ)) (seed nodes arcs other some more : ℕ)
+    → AsksGraph words seed nodes arcs → AsksGraph words other some more
+    → (seed ≡ other) × (nodes ≡ some) × (arcs ≡ more)
+same_numbers words seed nodes arcs other some more h k =
+    let e : codes "make" ∷ h.first ∷ h.second ∷ h.third ∷ []
+    ≡ codes "make" ∷ k.first ∷ k.second ∷ k.third ∷ [] = sym h.words_are ∙ k.words_are in
+    let first : h.first ≡ k.first = cc in
+    let second : h.second ≡ k.second = cc in
+    let third : h.third ≡ k.third = cc in (
+      h.seed_is.0.1 ∙ ap (digits_value 10) first ∙ sym k.seed_is.0.1,
+      h.nodes_are.0.1 ∙ ap (digits_value 10) second ∙ sym k.nodes_are.0.1,
+      h.arcs_are.0.1 ∙ ap (digits_value 10) third ∙ sym k.arcs_are.0.1,
+    )
+
+-- They don't ask for both.
+pub run_or_graph : (words : List (List ℕ)) (graph script : List ℕ) (seed nodes arcs : ℕ)
+    → Asks words (RunOn graph script) → AsksGraph words seed nodes arcs → ⊥
+run_or_graph words graph script seed nodes arcs h k =
+    absurd (omega (arith, ap length (sym h.0 ∙ k.words_are)))
+
+-- They ask for one drill at most.
+pub same_drill : (words : List (List ℕ)) (seed lines other some : ℕ)
+    → AsksDrill words seed lines → AsksDrill words other some
+    → (seed ≡ other) × (lines ≡ some)
+same_drill words seed lines other some h k =
+    let e : codes "drill" ∷ h.first ∷ h.second ∷ [] ≡ codes "drill" ∷ k.first ∷ k.second ∷ [] =
+    sym h.words_are ∙ k.words_are in
+    let first : h.first ≡ k.first = cc in
+    let second : h.second ≡ k.second = cc in (
+      h.seed_is.0.1 ∙ ap (digits_value 10) first ∙ sym k.seed_is.0.1,
+      h.lines_are.0.1 ∙ ap (digits_value 10) second ∙ sym k.lines_are.0.1,
+    )
+
+-- They don't ask for a run and for a drill.
+pub run_or_drill : (words : List (List ℕ)) (graph script : List ℕ) (seed lines : ℕ)
+    → Asks words (RunOn graph script) → AsksDrill words seed lines → ⊥
+run_or_drill words graph script seed lines h k =
+    let e : codes "run" ∷ graph ∷ script ∷ [] ≡ codes "drill" ∷ k.first ∷ k.second ∷ [] =
+    sym h.0 ∙ k.words_are in
+    let first : codes "run" ≡ codes "drill" = cc in
+    absurd (omega (arith, ap length first))
+
+-- They don't ask for a graph and for a drill.
+pub graph_or_drill : (words : List (List ℕ)) (seed nodes arcs other lines : ℕ)
+    → AsksGraph words seed nodes arcs → AsksDrill words other lines → ⊥
+graph_or_drill words seed nodes arcs other lines h k =
+    absurd (omega (arith, ap length (sym h.words_are ∙ k.words_are)))
 
 -- ---- one file
 

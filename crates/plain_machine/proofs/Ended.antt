@@ -3,6 +3,7 @@ use Rattle.std.proofs.Common.{◌≡◌, ℕ, Bool, true, false, List, refl, sym
 use Rattle.std.specs.Prelude.{◌⊎◌}
 use Rattle.edge_io.specs.Files.{Files, HoldsWithin}
 use Rattle.token_text.specs.Lines.{lines_of}
+use Rattle.lgf_file.specs.Plain.{plain}
 use Rattle.lgf_file.specs.declared.documents.Doc.{Doc}
 use Rattle.lgf_file.specs.declared.faults.LgfFault.{LgfFault}
 use Rattle.script_words.specs.declared.commands.GuardWord.{GuardWord}
@@ -14,12 +15,22 @@ use Rattle.plain_machine.specs.declared.statuses.Status.{Status}
 use Rattle.plain_machine.specs.declared.statuses.Status.TheVariants as statuses
 use Rattle.plain_machine.specs.Texts.{graph_fault_text, report_of, has_refusal}
 use Rattle.plain_machine.specs.Texts.{all_saves, overwritten}
-use Rattle.plain_machine.specs.Words.{RunOn, usage}
+use Rattle.plain_machine.specs.Runs.{Run}
+use Rattle.plain_machine.specs.Generator.{made}
+use Rattle.base_items.specs.declared.items.ItemSort.TheVariants as sorts
+use Rattle.plain_digraph.specs.Items.{count_of}
+use Rattle.plain_machine.specs.Drill.{Drilled, drill_text, accepted_in, refused_in}
+use Rattle.plain_machine.specs.Drill.{first_lines, drawn_lines}
+use Rattle.plain_machine.specs.Words.{RunOn, MakeOf, DrillOf, usage}
 use Rattle.plain_machine.specs.Inputs.{HasGraph, HasBadGraph, HasTooLong}
-use Rattle.plain_machine.specs.Outcome.{Left, Nothing, Desk, PlaysWhole, EndsRun, EndsUsage}
+use Rattle.plain_machine.specs.Outcome.{Left, Nothing, Desk}
+use Rattle.plain_machine.specs.Outcome.{PlaysWhole, EndsRun, EndsUsage, EndsText, EndsDrill}
+use Rattle.plain_machine.specs.Outcome.{Handed}
 use Rattle.plain_machine.specs.Outcome.{LeavesText, LeavesNothing, HandsBackAtEnd, IsWhole}
 use Rattle.plain_machine.specs.Laws.{OutcomesAreOne}
-use Rattle.plain_machine.proofs.Apart.{same_names, one_file, within, graph_or_bad, graph_within}
+use Rattle.plain_machine.proofs.Apart.{same_names, same_numbers, same_drill}
+use Rattle.plain_machine.proofs.Apart.{run_or_graph, run_or_drill, graph_or_drill}
+use Rattle.plain_machine.proofs.Apart.{one_file, within, graph_or_bad, graph_within}
 use Rattle.plain_machine.proofs.Apart.{one_graph, one_bad_graph, bad_within}
 use Rattle.plain_machine.proofs.Once.{AnswersOnce, runs_once}
 
@@ -171,6 +182,47 @@ module _ (answers : World → List ℕ → Answer → World → Type 0) (once : 
   used left statuses.WriteFault before now whole handed h = absurd whole
   used left _ before now whole handed h = absurd h
 
+  -- ---- a graph that is made
+
+  -- Its text went out.
+  made_whole : (text out : List ℕ) (before now : ℕ) (status : Status) → IsWhole status
+      → EndsText text out before now status → (status ≡ statuses.Done) × (out ≡ text)
+  made_whole text out before now statuses.Done whole h = (refl, h)
+  made_whole text out before now statuses.WriteFault whole h = absurd whole
+  made_whole text out before now statuses.Memory whole h = absurd whole
+  made_whole text out before now _ whole h = absurd h
+
+  -- ---- a drill
+
+  module _ (pool : List GuardWord) (seed lines : ℕ) where
+    -- The lines lead to one world, and to one text.
+    drilled_once : (last later : World) (text more : List ℕ)
+        → Drilled answers pool seed lines last text → Drilled answers pool seed lines later more
+        → (last ≡ later) × (text ≡ more)
+    drilled_once last later text more one two =
+        let opened = runs_once answers once (load (made seed 100 400) pool) one.begun two.begun 1
+        first_lines one.opening two.opening one.opened two.opened in
+        let same = subst (λ w. Run answers w 8 (drawn_lines seed lines) one.drawn last) opened.1
+        one.ran in
+        let ran = runs_once answers once two.begun last later 8 (drawn_lines seed lines) one.drawn
+        two.drawn same two.ran in (
+          ran.1,
+          one.text_is
+              ∙ (λ i. drill_text (accepted_in (ran.0 i)) (refused_in (ran.0 i))
+              (count_of (ran.1 i).graph sorts.Node) (count_of (ran.1 i).graph sorts.Arc))
+              ∙ sym two.text_is,
+        )
+
+    -- Its text went out, and its world is handed back.
+    drilled_whole : (out : List ℕ) (handed : Handed) (before now : ℕ) (status : Status)
+        → IsWhole status → EndsDrill answers pool seed lines out handed before now status
+        → (status ≡ statuses.Done) × (last : World)
+        × Drilled answers pool seed lines last out × (handed ≡ Desk last)
+    drilled_whole out handed before now statuses.Done whole h = (refl, h.0, h.1, h.2)
+    drilled_whole out handed before now statuses.WriteFault whole h = absurd whole
+    drilled_whole out handed before now statuses.Memory whole h = absurd whole
+    drilled_whole out handed before now _ whole h = absurd h
+
   -- ---- the outcome
 
   pub outcomes_once : OutcomesAreOne answers
@@ -200,3 +252,56 @@ module _ (answers : World → List ℕ → Answer → World → Type 0) (once : 
       (three_ways pool files file lines left status whole handed both)
       (three_ways pool files file lines other next end back two) in
       (same.0, same.1.0, same.1.1, same.1.2)
+  outcomes_once words pool files left other status next whole end
+      (inr (RunOn graph script, asks, one), handed)
+      (inr (MakeOf seed nodes arcs, ask, two), back) =
+      absurd (run_or_graph words graph script seed nodes arcs asks ask)
+  outcomes_once words pool files left other status next whole end
+      (inr (MakeOf seed nodes arcs, asks, one), handed) (inr (RunOn graph script, ask, two), back) =
+      absurd (run_or_graph words graph script seed nodes arcs ask asks)
+  outcomes_once words pool files left other status next whole end
+      (inr (MakeOf seed nodes arcs, asks, one), handed)
+      (inr (MakeOf first second third, ask, two), back) =
+      let same = same_numbers words seed nodes arcs first second third asks ask in
+      let text : plain (made seed nodes arcs) ≡ plain (made first second third) =
+      λ i. plain (made (same.0 i) (same.1 i) (same.2 i)) in
+      let begun = made_whole (plain (made seed nodes arcs)) left.out left.before.writes
+      left.now.writes status whole one.0 in
+      let then = made_whole (plain (made first second third)) other.out other.before.writes
+      other.now.writes next end two.0 in (
+        begun.0 ∙ sym then.0,
+        begun.1 ∙ text ∙ sym then.1,
+        one.1 ∙ sym two.1,
+        one.2 ∙ sym two.2,
+      )
+  outcomes_once words pool files left other status next whole end
+      (inr (DrillOf seed lines, asks, one), handed) (inr (RunOn graph script, ask, two), back) =
+      absurd (run_or_drill words graph script seed lines ask asks)
+  outcomes_once words pool files left other status next whole end
+      (inr (RunOn graph script, asks, one), handed) (inr (DrillOf seed lines, ask, two), back) =
+      absurd (run_or_drill words graph script seed lines asks ask)
+  outcomes_once words pool files left other status next whole end
+      (inr (DrillOf seed lines, asks, one), handed)
+      (inr (MakeOf first nodes arcs, ask, two), back) =
+      absurd (graph_or_drill words first nodes arcs seed lines ask asks)
+  outcomes_once words pool files left other status next whole end
+      (inr (MakeOf first nodes arcs, asks, one), handed)
+      (inr (DrillOf seed lines, ask, two), back) =
+      absurd (graph_or_drill words first nodes arcs seed lines asks ask)
+  outcomes_once words pool files left other status next whole end
+      (inr (DrillOf seed lines, asks, one), handed) (inr (DrillOf first some, ask, two), back) =
+      let same = same_drill words seed lines first some asks ask in
+      let moved = subst (λ n. EndsDrill answers pool n lines left.out left.handed
+      left.before.writes left.now.writes status) same.0 one.0 in
+      let both = subst (λ n. EndsDrill answers pool first n left.out left.handed
+      left.before.writes left.now.writes status) same.1 moved in
+      let begun = drilled_whole pool first some left.out left.handed left.before.writes
+      left.now.writes status whole both in
+      let then = drilled_whole pool first some other.out other.handed other.before.writes
+      other.now.writes next end two.0 in
+      let told = drilled_once pool first some begun.1 then.1 left.out other.out begun.2 then.2 in (
+        begun.0 ∙ sym then.0,
+        told.1,
+        one.1 ∙ sym two.1,
+        begun.3 ∙ ap Desk told.0 ∙ sym then.3,
+      )

@@ -1,8 +1,7 @@
--- A line has one answer by what is picked, and the commands that are run leave no choice.
+-- A line has one answer by what is picked, and one by whatever is picked where it leaves no choice.
 use Rattle.std.proofs.Common.{◌≡◌, Bool, true, false, refl, sym, ◌∙◌, ap, subst, inl, inr}
 use Rattle.std.specs.Prelude.{MatchBool, None, Some}
 use Rattle.script_words.specs.declared.commands.Command.{Command}
-use Rattle.script_words.specs.declared.commands.Command.TheVariants as commands
 use Rattle.script_words.proofs.Verdicts.{one_command, one_column}
 use Rattle.report_text.specs.declared.faults.Fault.{Fault}
 use Rattle.report_text.specs.declared.faults.Fault.TheVariants.{BadLine}
@@ -12,13 +11,11 @@ use Rattle.plain_world.specs.declared.answers.Answer.TheVariants.{Answered, Refu
 use Rattle.plain_world.specs.World.{World}
 use Rattle.plain_world.specs.Queries.{graph}
 use Rattle.plain_world.specs.Choices.{choice_of, view_of}
-use Rattle.plain_world.specs.Choices as choices
 use Rattle.plain_world.specs.Laws.{chooses}
 use Rattle.plain_world.specs.Steps.{Does, Step}
 use Rattle.plain_world.proofs.One.{one_answer, one_refusal}
 use Rattle.plain_world.proofs.Chosen.{choices_tell}
 use Rattle.plain_machine.specs.Built.{is_built, IsBadAt, first_column, AnswersCommand, AnswersBy}
-use Rattle.plain_machine.specs.Built.{Answers}
 use Rattle.plain_machine.specs.Chosen.{Pick, DoesBy, StepBy, PickedAnswers}
 use Rattle.plain_machine.specs.Laws.{StepsAreOne, NothingIsPicked}
 use Rattle.plain_machine.proofs.Alike.{agree_both}
@@ -88,27 +85,7 @@ lines_once step once world later after line answer other (inr one) (inr two) =
 pub picked_once : (pick : Pick) → AnswersOnce (PickedAnswers pick)
 picked_once pick = lines_once (StepBy pick) (steps_once pick)
 
--- ---- the commands that are run
-
-unbuilt : {X : Type 0} → false ≡ true → X
-unbuilt e = absurd (unlike e)
-  where
-    unlike : false ≡ true → ⊥
-    unlike e = cc
-
--- A command that is run leaves no choice.
-built_is_sure : (command : Command) → is_built command ≡ true → chooses command ≡ false
-built_is_sure (commands.Dijkstra view length start) built = unbuilt built
-built_is_sure (commands.Bellman view length start) built = unbuilt built
-built_is_sure (commands.MaxFlow view cap s t into) built = unbuilt built
-built_is_sure (commands.Circulate view low up supply into) built = unbuilt built
-built_is_sure (commands.MinCost view low up cost supply into) built = unbuilt built
-built_is_sure (commands.Simplex view low up cost supply into) built = unbuilt built
-built_is_sure (commands.Match view left) built = unbuilt built
-built_is_sure (commands.Heaviest view left weight) built = unbuilt built
-built_is_sure (commands.Assign view left cost) built = unbuilt built
-built_is_sure (commands.MeanCycle view length time) built = unbuilt built
-built_is_sure _ built = refl
+-- ---- commands that leave no choice
 
 -- What a choice says where its test fails.
 at_false : (b : Bool) (P Q : Type 0) → b ≡ false → Q → MatchBool b P Q
@@ -130,8 +107,8 @@ sure_step pick world later command (Answered reply) sure step = (
 )
 
 pub nothing_picked : NothingIsPicked
-nothing_picked pick world later line answer (inr bad) = inr bad
-nothing_picked pick world later line answer (inl said) =
+nothing_picked pick world later line answer sure (inr bad) = inr bad
+nothing_picked pick world later line answer sure (inl said) =
     inl (said.0, said.1, by_test (is_built said.0) refl said.2)
   where
     by_test : (b : Bool) → is_built said.0 ≡ b
@@ -140,12 +117,5 @@ nothing_picked pick world later line answer (inl said) =
         → MatchBool b (StepBy pick world said.0 answer later)
         (IsBadAt world (first_column line) answer later)
     by_test true built step =
-        sure_step pick world later said.0 answer (built_is_sure said.0 built) step
+        sure_step pick world later said.0 answer (sure said.0 said.1) step
     by_test false built bad = bad
-
-pub own_once : AnswersOnce Answers
-own_once world later after line answer other one two =
-    let pick : Pick = λ w c. choices.None in
-    picked_once pick world later after line answer other
-    (nothing_picked pick world later line answer one)
-    (nothing_picked pick world after line other two)

@@ -1,9 +1,11 @@
 -- That steps, runs and outcomes are one, where a choice is picked for each query.
-use Rattle.std.specs.Prelude.{◌≡◌, ℕ, List, length}
+use Rattle.std.specs.Prelude.{◌≡◌, ℕ, false, List, [], ◌∷◌, length}
 use Rattle.edge_io.specs.Files.{Files}
 use Rattle.script_words.specs.declared.commands.Command.{Command}
 use Rattle.script_words.specs.declared.commands.GuardWord.{GuardWord}
+use Rattle.script_words.specs.Lines.{Says}
 use Rattle.plain_world.specs.declared.answers.Answer.{Answer}
+use Rattle.plain_world.specs.Laws.{chooses}
 use Rattle.plain_world.specs.World.{World}
 use Rattle.plain_machine.specs.declared.statuses.Status.{Status}
 use Rattle.plain_machine.specs.Built.{Answers}
@@ -17,10 +19,35 @@ StepsAreOne = (pick : Pick) (world later after : World) (command : Command) (ans
     → StepBy pick world command answer later → StepBy pick world command other after
     → (answer ≡ other) × (later ≡ after)
 
--- Where no command that is run leaves a choice, each answer is one by whatever is picked.
+-- The line says no command that leaves a choice.
+abbrev pub IsSure : List ℕ → Type 0
+IsSure line = (command : Command) → Says line command → chooses command ≡ false
+
+-- Each of some lines does so.
+abbrev pub AreSure : List (List ℕ) → Type 0
+AreSure [] = Unit {0}
+AreSure (line ∷ lines) = IsSure line × AreSure lines
+
+-- A sure line has its answer by whatever is picked.
 abbrev pub NothingIsPicked : Type 0
 NothingIsPicked = (pick : Pick) (world later : World) (line : List ℕ) (answer : Answer)
-    → Answers world line answer later → PickedAnswers pick world line answer later
+    → IsSure line → Answers world line answer later → PickedAnswers pick world line answer later
+
+-- Sure lines have one list of answers, and lead to one world.
+abbrev pub SureRunsAreOne : Type 0
+SureRunsAreOne = (world later after : World) (number : ℕ) (lines : List (List ℕ))
+    (said also : List (ℕ × Answer)) → AreSure lines → Run Answers world number lines said later
+    → Run Answers world number lines also after → (said ≡ also) × (later ≡ after)
+
+-- Runs of the same sure lines that end early at the same line had the same answers before it, and
+-- came to the same world and files.
+abbrev pub SureStopsAreOne : Type 0
+SureStopsAreOne = (world : World) (files : Files) (lines : List (List ℕ))
+    (part out part_b out_b : List ℕ) → AreSure lines
+    → (one : StoppedAt Answers world files lines part out)
+    (other : StoppedAt Answers world files lines part_b out_b)
+    → length one.before ≡ length other.before
+    → (one.answers ≡ other.answers) × (one.mid ≡ other.mid) × (one.kept ≡ other.kept)
 
 -- ---- on a machine whose lines have these answers
 

@@ -1,6 +1,8 @@
 pub mod Built
 pub mod Texts
 pub mod Runs
+pub mod Generator
+pub mod Drill
 pub mod Words
 pub mod Inputs
 pub mod Outcome

@@ -3,6 +3,7 @@ use Rattle.std.specs.Prelude.{◌≡◌, ◌⊎◌, ℕ, Bool, true, false, List
 use Rattle.edge_io.specs.Causes.{Rose}
 use Rattle.edge_io.specs.Files.{Files, HoldsWithin}
 use Rattle.token_text.specs.Lines.{lines_of}
+use Rattle.lgf_file.specs.Plain.{plain}
 use Rattle.lgf_file.specs.declared.documents.Doc.{Doc}
 use Rattle.lgf_file.specs.declared.faults.LgfFault.{LgfFault}
 use Rattle.script_words.specs.declared.commands.GuardWord.{GuardWord}
@@ -15,7 +16,9 @@ use Rattle.plain_machine.specs.declared.statuses.Status.TheVariants as statuses
 use Rattle.plain_machine.specs.Built.{Answers}
 use Rattle.plain_machine.specs.Texts.{graph_fault_text}
 use Rattle.plain_machine.specs.Runs as runs
-use Rattle.plain_machine.specs.Words.{Shape, RunOn, Asks, AskNothing, usage}
+use Rattle.plain_machine.specs.Generator.{made}
+use Rattle.plain_machine.specs.Drill.{Drilled}
+use Rattle.plain_machine.specs.Words.{Shape, RunOn, MakeOf, DrillOf, Asks, AskNothing, usage}
 use Rattle.plain_machine.specs.Inputs.{HasGraph, HasBadGraph, HasTooLong}
 
 -- ---- what a call of the program leaves
@@ -125,6 +128,26 @@ EndsUsage out before now statuses.Usage = out ≡ usage
 EndsUsage out before now statuses.WriteFault = IsPrefixOf out usage × Rose before now
 EndsUsage out before now _ = ⊥
 
+-- A text that goes out as it is made: all of it, or a prefix of it before a write failed or memory
+-- ran out; the numbers are the counts of failed writes.
+abbrev pub EndsText : (text out : List ℕ) (before now : ℕ) → Status → Type 0
+EndsText text out before now statuses.Done = out ≡ text
+EndsText text out before now statuses.WriteFault = IsPrefixOf out text × Rose before now
+EndsText text out before now statuses.Memory = IsPrefixOf out text
+EndsText text out before now _ = ⊥
+
+-- A drill: its text went out, and the last world is handed back; or a prefix of the text before a
+-- write failed, or nothing where memory ran out. The numbers are the counts of failed writes.
+abbrev pub EndsDrill : (World → List ℕ → Answer → World → Type 0) → List GuardWord
+    → (seed lines : ℕ) (out : List ℕ) (handed : Handed) (before now : ℕ) → Status → Type 0
+EndsDrill answers pool seed lines out handed before now statuses.Done =
+    (last : World) × Drilled answers pool seed lines last out × (handed ≡ Desk last)
+EndsDrill answers pool seed lines out handed before now statuses.WriteFault =
+    (last : World) × (text : List ℕ) × Drilled answers pool seed lines last text
+    × IsPrefixOf out text × Rose before now
+EndsDrill answers pool seed lines out handed before now statuses.Memory = out ≡ []
+EndsDrill answers pool seed lines out handed before now _ = ⊥
+
 -- ---- the outcome
 
 -- No world is handed back where not all lines were answered.
@@ -138,6 +161,12 @@ abbrev pub Ends : (World → List ℕ → Answer → World → Type 0)
     → List GuardWord → Files → Shape → Left → Status → Type 0
 Ends answers pool files (RunOn graph script) left status =
     EndsRun answers load Desk pool files graph script left status
+Ends answers pool files (MakeOf seed nodes arcs) left status =
+    EndsText (plain (made seed nodes arcs)) left.out left.before.writes left.now.writes status
+    × (left.files ≡ files) × (left.handed ≡ Nothing)
+Ends answers pool files (DrillOf seed lines) left status =
+    EndsDrill answers pool seed lines left.out left.handed left.before.writes left.now.writes
+    status × (left.files ≡ files)
 
 -- What words, boxes and files come to where lines have these answers: what is left, and the status.
 abbrev pub OutcomeBy : (World → List ℕ → Answer → World → Type 0)

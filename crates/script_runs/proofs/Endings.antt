@@ -200,6 +200,7 @@ does_save world later (commands.Forget snapshot) name bytes built does =
 does_save world later commands.Snaps name bytes built does = absurd (let e = does.0 in cc)
 does_save world later (commands.View view layer below) name bytes built does =
     absurd (let e = does.0 in cc)
+does_save world later (commands.Keep view) name bytes built does = absurd (let e = does.0 in cc)
 does_save world later (commands.Unview view) name bytes built does = absurd (let e = does.0 in cc)
 does_save world later (commands.Nodes view) name bytes built does = absurd (let e = does.0 in cc)
 does_save world later (commands.Arcs view) name bytes built does = absurd (let e = does.0 in cc)
@@ -207,6 +208,36 @@ does_save world later (commands.Out view node) name bytes built does =
     absurd (let e = does.0 in cc)
 does_save world later (commands.In view node) name bytes built does =
     absurd (let e = does.0 in cc)
+does_save world later (commands.Dijkstra view length start) name bytes built does =
+    absurd (let e = does.0.reply_is in cc)
+does_save world later (commands.Bellman view length start) name bytes built (inl does) =
+    absurd (let e = does.0.reply_is in cc)
+does_save world later (commands.Bellman view length start) name bytes built (inr does) =
+    absurd (let e = does.0.reply_is in cc)
+does_save world later (commands.MaxFlow view cap s t into) name bytes built does =
+    absurd (let e = does.1.reply_is in cc)
+does_save world later (commands.Circulate view low up supply into) name bytes built (inl does) =
+    absurd (let e = does.1.reply_is in cc)
+does_save world later (commands.Circulate view low up supply into) name bytes built (inr does) =
+    absurd (let e = does.0.reply_is in cc)
+does_save world later (commands.MinCost view low up cost supply into) name bytes built (inl does) =
+    absurd (let e = does.1.reply_is in cc)
+does_save world later (commands.MinCost view low up cost supply into) name bytes built
+    (inr (inl does)) =
+    absurd (let e = does.0.reply_is in cc)
+does_save world later (commands.MinCost view low up cost supply into) name bytes built
+    (inr (inr does)) =
+    absurd (let e = does.1.reply_is in cc)
+does_save world later (commands.Simplex view low up cost supply into) name bytes built (inl does) =
+    absurd (let e = does.1.0.reply_is in cc)
+does_save world later (commands.Simplex view low up cost supply into) name bytes built
+    (inr (inl does)) =
+    absurd (let e = does.0.reply_is in cc)
+does_save world later (commands.Simplex view low up cost supply into) name bytes built
+    (inr (inr does)) =
+    absurd (let e = does.1.reply_is in cc)
+does_save world later (commands.Match view left) name bytes built does =
+    absurd (let e = does.0.reply_is in cc)
 does_save world later (commands.Tie attribute sort) name bytes built does =
     absurd (let e = does.0 in cc)
 does_save world later (commands.Untie attribute) name bytes built does =

@@ -1,6 +1,6 @@
 pub mod Nothing
-mod Results
-mod Runs
+pub mod Results
+pub mod Runs
 mod Reached
 pub mod Played
 pub mod Endings

@@ -69,7 +69,7 @@ Heads world number line lines answers later =
     × Answers world line answer mid × Run mid (number + 1) lines others later
 
 -- One run after another.
-run_on : (world : World) (number next : ℕ) (lines more : List (List ℕ))
+pub run_on : (world : World) (number next : ℕ) (lines more : List (List ℕ))
     (answers others : List (ℕ × Answer)) (mid later : World)
     → next ≡ number + length lines → Run world number lines answers mid
     → Run mid next more others later
@@ -91,12 +91,12 @@ run_on world number next (line ∷ lines) more answers others mid later at h k =
     ))
 
 -- A line that is passed over.
-one_passed : (world : World) (number : ℕ) (line : List ℕ) → is_passed_over line ≡ true
+pub one_passed : (world : World) (number : ℕ) (line : List ℕ) → is_passed_over line ≡ true
     → Run world number (line ∷ []) [] world
 one_passed world number line e = at_true (is_passed_over line) _ _ e (refl, refl)
 
 -- A line that is answered.
-one_answered : (world later : World) (number : ℕ) (line : List ℕ) (answer : Answer)
+pub one_answered : (world later : World) (number : ℕ) (line : List ℕ) (answer : Answer)
     → is_passed_over line ≡ false
     → Answers world line answer later → Run world number (line ∷ []) ((number, answer) ∷ []) later
 one_answered world later number line answer e h =

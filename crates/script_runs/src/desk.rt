@@ -1,6 +1,6 @@
 //! What runs of scripts ask of a world.
 
-use base_items::{MAX_ARCS, MAX_NODES, MAX_STAMP};
+use base_items::{ItemSort, MAX_ARCS, MAX_NODES, MAX_STAMP};
 use lgf_file::Doc;
 use report_text::{Reply, StepFault};
 use script_words::Command;
@@ -12,6 +12,7 @@ pub trait Desk: Drop {
     ghost use Rattle.std.specs.Prelude.{◌≡◌, ◌+◌, ◌^◌, ◌<◌, ◌≤◌, List, true, IfOk, IfErr};
     ghost use Rattle.lgf_file.specs.Documents.{IsDoc};
     ghost use Rattle.script_words.specs.Valid.{IsValid};
+    ghost use Rattle.plain_digraph.specs.Items.{count_of};
     ghost use Rattle.script_words.specs.declared.commands.GuardWord.{GuardWord};
     ghost use Rattle.plain_world.specs.World.{World as PlainWorld};
     ghost use Rattle.plain_world.specs.Documents.{load as loaded_of};
@@ -45,6 +46,10 @@ pub trait Desk: Drop {
     /// Whether the command is one that it runs.
     fn built(command: &Command) -> bool
         ensures { result ≡ is_built command.now };
+
+    /// How many items of the sort are live.
+    fn live(&self, sort: ItemSort) -> u32
+        ensures { result ≡ count_of (plain self.now).graph sort };
 
     /// What the command answers. It needs 2^24 stamps, and uses fewer. After a refusal, and where
     /// memory runs out, the plain world is as before.

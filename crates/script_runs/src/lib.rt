@@ -11,5 +11,6 @@ mod opening;
 mod script;
 mod words;
 
+pub use answers::{answer_line, is_refused};
 pub use desk::Desk;
 pub use words::{refuse_words, run_files, run_names};

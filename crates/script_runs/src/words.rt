@@ -5,7 +5,7 @@ ghost use Rattle.std.specs.Prelude.{IsSome, IsTrue};
 ghost use Rattle.edge_io.specs.Causes.{Rose, StayedSame};
 ghost use Rattle.edge_io.specs.Files.{Files, Took};
 ghost use Rattle.plain_machine.specs.Built.{Answers};
-ghost use Rattle.plain_machine.specs.Words.{RunOn, Asks, AskNothing, IsFileName, contents};
+ghost use Rattle.plain_machine.specs.Words.{RunOn, Asks, IsFileName, contents};
 ghost use Rattle.plain_machine.specs.Inputs.{ReadRose};
 ghost use Rattle.plain_machine.specs.Outcome.{Counts, Ends, EndsUsage};
 ghost use Rattle.plain_machine.specs.Statuses.{EndsByFault};
@@ -99,7 +99,8 @@ fn handed_back<D: Drop>(status: Status, desk: D) -> Option<D>
 pub fn run_names(words: &[Vec<u8>]) -> Option<(&[u8], &[u8])>
     ensures some { IfSome result (λ names.
         Asks (contents words.now) (RunOn names.0.now names.1.now)) }
-    ensures none { IfNone result (AskNothing (contents words.now)) }
+    ensures none { IfNone result ((graph script : List ℕ)
+        → Asks (contents words.now) (RunOn graph script) → ⊥) }
 {
     let [first, graph, script] = words else {
         return None;
