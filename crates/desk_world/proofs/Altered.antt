@@ -29,6 +29,7 @@ use Rattle.desk_world.specs.declared.tables.GuardRow.{GuardRow}
 use Rattle.desk_world.specs.declared.world.World.{World}
 use Rattle.desk_world.specs.Claims.{claims_of}
 use Rattle.desk_world.specs.Derived.{AreDerived}
+use Rattle.desk_world.specs.KeptViews.{AreKept}
 use Rattle.desk_world.specs.Entries.{room_for_labels}
 use Rattle.desk_world.specs.InStep.{AreInStep, AreSeated}
 use Rattle.desk_world.specs.Leaving.{AreAltered, still_claimed, with_none_left}
@@ -132,6 +133,7 @@ module _ {O : Type 0} (watch : O → Watched) (w : World O) (in_step : AreInStep
     stood = stood_in_step s in_step.graph (λ sort. steady_in watch sort w.graph.chains);
     remain = remain_all (claims_of w) s.chains in_step.seated;
     derived = in_step.derived;
+    kept = in_step.kept;
     all_there = λ none. each_still (claims_of w) s.chains in_step.seated.there;
   }
 
@@ -167,6 +169,10 @@ module _ {O : Type 0} (watch : O → Watched) (w : World O) (t : State) (steps :
   derived_on =
       subst (λ look. AreDerived look w.nodes w.arcs w.attributes.rows) (sym looks_on)
       carried.derived
+
+  pub kept_on : AreKept (look_in t.chains) w.nodes w.arcs w.views.rows
+  kept_on =
+      subst (λ look. AreKept look w.nodes w.arcs w.views.rows) (sym looks_on) carried.kept
 
   -- where no key of a guard that left is to be taken, none has left
   pub still_on : ((sort : ItemSort) → (chain_in sort t.chains).left ≡ [])
@@ -217,11 +223,9 @@ module _ {O : Type 0} (watch : O → Watched) (w : World O) (a : AlterOf O) (ste
       graph = goes.in_step;
       seated = seated_on watch w t steps in_step goes takes;
       boxes = in_step.boxes;
-      bare = record {
-        views = in_step.bare.views;
-      };
       snaps = snaps_on watch w t steps in_step goes takes;
       derived = derived_on watch w t steps in_step goes takes;
+      kept = kept_on watch w t steps in_step goes takes;
       all_there = λ none. all_kept (still_by (look_in t.chains)) (claims_of w)
           (still_on watch w t steps in_step goes takes none);
     }

@@ -12,7 +12,6 @@ use Rattle.base_items.specs.declared.items.ItemSort.{ItemSort}
 use Rattle.base_items.specs.declared.items.ItemSort.TheVariants.{Node, Arc}
 use Rattle.plain_digraph.specs.Items.{facts}
 use Rattle.plain_digraph.specs.Rising.{with_item}
-use Rattle.plain_digraph.specs.Lists.{AllOf}
 use Rattle.observe_core.specs.Held as held
 use Rattle.observe_core.specs.Held.{Entry, entry_id}
 use Rattle.observe_core.specs.Items.{place_all}
@@ -32,9 +31,10 @@ use Rattle.desk_world.specs.declared.tables.AttributeRow.TheVariants as rows
 use Rattle.desk_world.specs.declared.world.World.{World}
 use Rattle.desk_world.specs.Blank.{plain_attributes, blank_world}
 use Rattle.desk_world.specs.Claims.{Claim, Plays, Labels, Ties, claims_of, own_claims, map_claim}
-use Rattle.desk_world.specs.Claims.{guard_claim, snap_claims}
+use Rattle.desk_world.specs.Claims.{guard_claim, snap_claims, view_claims}
 use Rattle.desk_world.specs.Columns.{labelled}
 use Rattle.desk_world.specs.Founding.{Founds, new_labels, new_ties}
+use Rattle.desk_world.specs.KeptViews.{AreKept}
 use Rattle.desk_world.specs.Derived.{AreIndexed, AreNumbered, AreOfRows, ties_at}
 use Rattle.desk_world.specs.InStep.{AreInStep, AreBoxes, AreSeated}
 use Rattle.desk_world.specs.Looks.{looked}
@@ -163,18 +163,20 @@ module _ {O : Type 0} (watch : O → Watched) (w : World O) (s0 s2 : State)
       subst (Plays Ties) (sym (built_is ∙ ap (built live) is))
       (record { form = refl; making = refl; kind = refl })
 
-  -- the claims with these of maps, of guards and of snapshots
-  abbrev claiming : (node_maps arc_maps : List (Named MapRow)) → List (Named GuardRow)
-      → List (Named SnapKeys) → List Claim
-  claiming node_maps arc_maps guards snapshots =
+  -- the claims with these of maps, of kept views, of guards and of snapshots
+  abbrev claiming : (node_maps arc_maps : List (Named MapRow)) → List (Named ViewRow)
+      → List (Named GuardRow) → List (Named SnapKeys) → List Claim
+  claiming node_maps arc_maps views guards snapshots =
       own_claims Node w.nodes
       ++ (own_claims Arc w.arcs
       ++ (map (map_claim Node) node_maps
       ++ (map (map_claim Arc) arc_maps
-      ++ (map guard_claim guards ++ flat_map snap_claims snapshots))))
+      ++ (flat_map view_claims views
+      ++ (map guard_claim guards ++ flat_map snap_claims snapshots)))))
 
   four : claims_of w ≡ four_claims a b c d
-  four = λ i. claiming (nodes.no_maps i) (arcs.no_maps i) (no_guards i) (no_snapshots i)
+  four = λ i. claiming (nodes.no_maps i) (arcs.no_maps i) (no_views i) (no_guards i)
+      (no_snapshots i)
 
   seated : AreSeated (claims_of w) last.chains
   seated =
@@ -199,9 +201,6 @@ module _ {O : Type 0} (watch : O → Watched) (w : World O) (s0 s2 : State)
     graph = in_step;
     seated = seated;
     boxes = boxes;
-    bare = record {
-      views = subst (AllOf (λ (e : Named ViewRow). e.value.kept ≡ None)) (sym no_views) tt;
-    };
     snaps = snaps_attached Arc d arcs.ties arcs.mid last arcs.second
         ∙ snaps_attached Arc c arcs.labels s2 arcs.mid arcs.first
         ∙ snaps_attached Node b nodes.ties nodes.mid s2 nodes.second
@@ -220,6 +219,8 @@ module _ {O : Type 0} (watch : O → Watched) (w : World O) (s0 s2 : State)
           are.arc_ties.seen (arc_ties_seen a b c d x y z u last.chains are)
           are.arc_ties_are arcs.ties_are)) tt;
     };
+    kept = subst (AreKept (look_of watch w) w.nodes w.arcs) (sym no_views)
+        (record { reading = tt; placed = tt });
   }
 
   no_labels : (sort : ItemSort) (key : ℕ) (live : List Fact) (s t : Seen)

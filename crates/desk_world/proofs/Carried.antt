@@ -30,8 +30,9 @@ use Rattle.desk_world.specs.declared.tables.MapRow.{MapRow}
 use Rattle.desk_world.specs.declared.world.World.{World}
 use Rattle.desk_world.specs.Claims as claims
 use Rattle.desk_world.specs.Claims.{Claim, Role, Plays, Sits, claims_of, guard_claim, map_claim}
-use Rattle.desk_world.specs.Claims.{snap_claims, role_of, has_map_kind}
+use Rattle.desk_world.specs.Claims.{snap_claims, view_claims, role_of, has_map_kind}
 use Rattle.desk_world.specs.Derived.{AreDerived}
+use Rattle.desk_world.specs.KeptViews.{AreKept}
 use Rattle.desk_world.specs.Looks.{Look, look_in, seen_at, room_at}
 use Rattle.desk_world.specs.Plain.{seat_sort, tables_of, world_seen}
 use Rattle.desk_world.proofs.Following.{AreStood, look_hears, world_follows}
@@ -42,6 +43,7 @@ use Rattle.desk_world.proofs.Hearing.{hears_in, seats_hear, made_hear, maps_hear
 use Rattle.desk_world.proofs.Hearing.{facts_sort, charged_hear, none_left_stay}
 use Rattle.desk_world.proofs.Remaining.{RemainIn, StillSits, remain_on, before, still_by}
 use Rattle.desk_world.proofs.Seated.{all_left, all_right, all_so}
+use Rattle.desk_world.proofs.KeptStep.{kept_then}
 use Rattle.desk_world.proofs.StillDerived.{derived_then}
 use Rattle.desk_world.proofs.Stood.{Stood, stood_of_fits}
 use Rattle.desk_world.proofs.Takes.{TakesAll}
@@ -132,18 +134,25 @@ module _ {O : Type 0} (w : World O) where
   abbrev snapshot_claims : List Claim
   snapshot_claims = flat_map snap_claims w.snapshots.rows
 
+  abbrev kept_seats : List Claim
+  kept_seats = flat_map view_claims w.views.rows
+
+  abbrev behind_maps : List Claim
+  behind_maps = kept_seats ++ (guard_claims ++ snapshot_claims)
+
   -- no key of an observer that left is to be taken
   abbrev pub HaveNoneLeft : ChainsSeen → Type 0
   HaveNoneLeft c = (sort : ItemSort) → (chain_in sort c).left ≡ []
 
   -- the digraph is valid, each observer stands for its items, the seats are those of the tables,
-  -- of which some guards may have left, and indexes and ties are those of the maps and the
-  -- attributes
+  -- of which some guards may have left, indexes and ties are those of the maps and the attributes,
+  -- and kept views are placed by the present values
   pub record Carries (s : State) : Type 0 where
     pub valid : IsValid s.graph
     pub stood : AreStood s
     pub remain : RemainIn (claims_of w) s.chains
     pub derived : AreDerived (look_in s.chains) w.nodes w.arcs w.attributes.rows
+    pub kept : AreKept (look_in s.chains) w.nodes w.arcs w.views.rows
     pub all_there : HaveNoneLeft s.chains
         → AllOf (λ x. still_by (look_in s.chains) x ≡ true) (claims_of w)
 
@@ -209,19 +218,20 @@ module _ {O : Type 0} (w : World O) where
     node_maps_sit =
         maps_still (look_in s.chains) sorts.Node w.nodes.maps.rows
         (all_left (StillSits (look_in s.chains)) node_claims
-        (arc_claims ++ (guard_claims ++ snapshot_claims)) carries.remain.there.1.1.1.1)
+        (arc_claims ++ behind_maps) carries.remain.there.1.1.1.1)
 
-    rows_there : AllOf (StillSits (look_in s.chains))
-        (arc_claims ++ (guard_claims ++ snapshot_claims))
+    rows_there : AllOf (StillSits (look_in s.chains)) (arc_claims ++ behind_maps)
     rows_there =
         all_right (StillSits (look_in s.chains)) node_claims
-        (arc_claims ++ (guard_claims ++ snapshot_claims)) carries.remain.there.1.1.1.1
+        (arc_claims ++ behind_maps) carries.remain.there.1.1.1.1
+
+    behind_there : AllOf (StillSits (look_in s.chains)) behind_maps
+    behind_there = all_right (StillSits (look_in s.chains)) arc_claims behind_maps rows_there
 
     arc_maps_sit : MapsSit sorts.Arc w.arcs.maps.rows
     arc_maps_sit =
         maps_still (look_in s.chains) sorts.Arc w.arcs.maps.rows
-        (all_left (StillSits (look_in s.chains)) arc_claims (guard_claims ++ snapshot_claims)
-        rows_there)
+        (all_left (StillSits (look_in s.chains)) arc_claims behind_maps rows_there)
 
     pub carries_on : Carries (took step s)
     carries_on = record {
@@ -240,6 +250,10 @@ module _ {O : Type 0} (w : World O) where
       derived = derived_then step s carries.valid can then_valid carries.stood
           carries.remain.keys_differ w.nodes w.arcs w.attributes.rows (ties_sit sorts.Node)
           (ties_sit sorts.Arc) node_maps_sit arc_maps_sit carries.derived;
+      kept = kept_then step s carries.valid can then_valid carries.stood
+          carries.remain.keys_differ w.nodes w.arcs w.views.rows node_maps_sit arc_maps_sit
+          (all_left (StillSits (look_in s.chains)) kept_seats (guard_claims ++ snapshot_claims)
+          behind_there) carries.kept;
       all_there = λ none. all_so (λ x. still_by (look_in s.chains) x ≡ true)
           (λ x. still_by (look_in d) x ≡ true) (still_then none) (claims_of w)
           (carries.all_there
@@ -272,8 +286,8 @@ module _ {O : Type 0} (w : World O) where
     step_follows pool table burn =
         let look = look_in s.chains in
         let there = carries.remain.there in
-        let guards = all_right (StillSits look) arc_claims (guard_claims ++ snapshot_claims)
-        rows_there in
+        let guards = all_right (StillSits look) kept_seats (guard_claims ++ snapshot_claims)
+        behind_there in
         world_follows step s carries.valid can then_valid carries.stood
         carries.remain.keys_differ w pool table (there.0 refl) (there.1.1.0 refl) ties_sit
         node_maps_sit arc_maps_sit

@@ -22,11 +22,11 @@ use Rattle.desk_world.proofs.Relabelled.{Agrees}
 
 module _ (look later : Look) where
   -- the rows of maps, each of which shows what it showed
-  abbrev RowAgrees : ItemSort → MapRow → Type 0
+  abbrev pub RowAgrees : ItemSort → MapRow → Type 0
   RowAgrees sort row =
       later (seat_sort sort row.kind) row.key.0 ≡ look (seat_sort sort row.kind) row.key.0
 
-  rows_show : (sort : ItemSort) (table : List (Named MapRow))
+  pub rows_show : (sort : ItemSort) (table : List (Named MapRow))
       → AllOf (Agrees look later) (map (map_claim sort) table)
       → AllOf (λ e. RowAgrees sort e.value) table
   rows_show sort [] all = tt

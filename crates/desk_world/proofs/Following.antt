@@ -159,7 +159,7 @@ AreStood s = (sort : ItemSort) (key : ℕ) (was : Seen) → look_in s.chains sor
     → Stood (facts s.graph sort) was
 
 -- who sits there
-seat_of : (role : Role) (o : Option Seen) → Sits role o
+pub seat_of : (role : Role) (o : Option Seen) → Sits role o
     → (was : Seen) × (o ≡ Some was) × Plays role was
 seat_of role None sits = absurd sits
 seat_of role (Some was) sits = (was, refl, sits)

@@ -133,11 +133,9 @@ module _ {O : Type 0} (watch : O → Watched) where
         graph = still.graph;
         seated = still.seated;
         boxes = boxes_again;
-        bare = record {
-          views = still.bare.views;
-        };
         snaps = still.snaps;
         derived = still.derived;
+        kept = still.kept;
       };
       stamps = same.graph;
     }

@@ -31,11 +31,9 @@ module _ {O : Type 0} (watch : O → Watched) (w : World O) (rows : Rows GuardRo
         (claims_are w ∙ ap (claims_with w) (sym same) ∙ sym (claims_now w rows w w.graph))
         in_step.seated;
     boxes = in_step.boxes;
-    bare = record {
-      views = in_step.bare.views;
-    };
     snaps = in_step.snaps;
     derived = in_step.derived;
+    kept = in_step.kept;
   }
 
   pub roomy_plain : plain_of watch (record w { guards = rows }) ≡ plain_of watch w

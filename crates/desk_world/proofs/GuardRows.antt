@@ -1,8 +1,9 @@
 -- The rows of guards among all that the tables of a world claim.
 use Rattle.std.proofs.Common.{◌≡◌, ℕ, Bool, true, false, cond, not, List, [], ◌∷◌, ◌++◌, map, refl}
-use Rattle.std.proofs.Common.{sym, ap, subst, Option, Some, ◌∙◌, append-nil}
+use Rattle.std.proofs.Common.{sym, ap, subst, Option, Some, None, is_some, ◌∙◌, append-nil}
 use Rattle.std.specs.Prelude.{find, filter, ◌==◌, ◌&&◌, ◌||◌}
 use Rattle.std.specs.List.{flat_map}
+use Rattle.std.specs.Option.{option_map_or}
 use Rattle.std.proofs.lemmas.Bool.{true≢false, and_from, and_parts, eq-eqb, eqb-true, or_from}
 use Rattle.std.proofs.lemmas.Bool.{or_parts}
 use Rattle.std.proofs.lemmas.Option.{none-some, same_Some}
@@ -14,10 +15,13 @@ use Rattle.alter_graph.specs.Verdict.{is_sort}
 use Rattle.plain_world.specs.Tables.{Named}
 use Rattle.desk_world.specs.declared.tables.GuardRow.{GuardRow}
 use Rattle.desk_world.specs.declared.tables.ItemTables.{ItemTables}
+use Rattle.desk_world.specs.declared.tables.KeptKeys.{KeptKeys}
+use Rattle.desk_world.specs.declared.tables.ViewRow.{ViewRow}
 use Rattle.desk_world.specs.declared.tables.MapRow.{MapRow}
 use Rattle.desk_world.specs.declared.world.World.{World}
 use Rattle.desk_world.specs.Claims.{Claim, ClaimsDiffer, claims_of, guard_claim, has_map_kind}
-use Rattle.desk_world.specs.Claims.{is_claimed, map_claim, own_claims, snap_claims}
+use Rattle.desk_world.specs.Claims.{is_claimed, map_claim, own_claims, snap_claims, view_claims}
+use Rattle.desk_world.specs.Claims.{kept_claims, KeptNodes, KeptArcs}
 use Rattle.desk_world.specs.Claims.{Half, Labels, Ties, claim}
 use Rattle.desk_world.specs.InStep.{is_guard_of}
 use Rattle.desk_world.specs.Vetoes.{is_row_of}
@@ -56,6 +60,21 @@ module _ (sort : ItemSort) where
       pass_first (map_claim own e) (map (map_claim own) es ++ xs) (map_role e.value.kind)
       ∙ pass_maps own es xs
 
+  pass_views : (table : List (Named ViewRow)) (xs : List Claim)
+      → guards_in (flat_map view_claims table ++ xs) ≡ guards_in xs
+  pass_views [] xs = refl
+  pass_views (e ∷ es) xs = one e.value.kept (flat_map view_claims es) ∙ pass_views es xs
+    where
+      one : (kept : Option KeptKeys) (more : List Claim)
+          → guards_in ((option_map_or kept_claims kept [] ++ more) ++ xs) ≡ guards_in (more ++ xs)
+      one None more = refl
+      one (Some keys) more =
+          let all = not (is_some keys.maps.arc_filter) in
+          let arcs = claim sorts.Arc keys.arcs.0 (KeptArcs keys.maps.shape all) in
+          pass_first (claim sorts.Node keys.nodes.0
+          (KeptNodes (not (is_some keys.maps.node_filter)))) (arcs ∷ (more ++ xs)) refl
+          ∙ pass_first arcs (more ++ xs) refl
+
   pass_halves : (table : List (Named SnapKeys)) → guards_in (flat_map snap_claims table) ≡ []
   pass_halves [] = refl
   pass_halves (e ∷ es) =
@@ -71,13 +90,14 @@ module _ (sort : ItemSort) where
   claimed_guards w =
       let guards = map guard_claim w.guards.rows in
       let halves = flat_map snap_claims w.snapshots.rows in
-      let last = guards ++ halves in
+      let last = flat_map view_claims w.views.rows ++ (guards ++ halves) in
       let arc_maps = map (map_claim sorts.Arc) w.arcs.maps.rows ++ last in
       let maps = map (map_claim sorts.Node) w.nodes.maps.rows ++ arc_maps in
       pass_own sorts.Node w.nodes (own_claims sorts.Arc w.arcs ++ maps)
       ∙ pass_own sorts.Arc w.arcs maps
       ∙ pass_maps sorts.Node w.nodes.maps.rows arc_maps
       ∙ pass_maps sorts.Arc w.arcs.maps.rows last
+      ∙ pass_views w.views.rows (guards ++ halves)
       ∙ filter-append (is_guard_of sort) guards halves
       ∙ ap (λ xs. guards_in guards ++ xs) (pass_halves w.snapshots.rows)
       ∙ append-nil (guards_in guards)
@@ -111,9 +131,11 @@ guards_differ w differ =
     let halves = flat_map snap_claims w.snapshots.rows in
     let arc_maps = map (map_claim sorts.Arc) w.arcs.maps.rows in
     let node_maps = map (map_claim sorts.Node) w.nodes.maps.rows in
+    let views = flat_map view_claims w.views.rows in
     differ_left guards halves
-    (differ_right arc_maps (guards ++ halves)
-    (differ_right node_maps (arc_maps ++ (guards ++ halves)) differ.1.1.1.1))
+    (differ_right views (guards ++ halves)
+    (differ_right arc_maps (views ++ (guards ++ halves))
+    (differ_right node_maps (arc_maps ++ (views ++ (guards ++ halves))) differ.1.1.1.1)))
 
 row_claimed : (rows : List (Named GuardRow)) (sort : ItemSort) (key : ℕ) (e : Named GuardRow)
     → find (is_row_of sort key) rows ≡ Some e → is_claimed (map guard_claim rows) sort key ≡ true

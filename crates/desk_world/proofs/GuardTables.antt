@@ -17,12 +17,13 @@ use Rattle.desk_names.specs.Rows.{Rows}
 use Rattle.desk_world.specs.declared.tables.GuardRow.{GuardRow}
 use Rattle.desk_world.specs.declared.world.World.{World}
 use Rattle.desk_world.specs.Claims.{Claim, claims_of, own_claims, map_claim, guard_claim}
-use Rattle.desk_world.specs.Claims.{snap_claims, has_map_kind}
+use Rattle.desk_world.specs.Claims.{snap_claims, view_claims, has_map_kind}
 use Rattle.desk_world.specs.InStep.{AreInStep, AreSeated, AreBoxes}
 use Rattle.desk_world.specs.Looks.{Look, looked, look_in}
 use Rattle.desk_world.specs.Plain.{look_of, world_seen, labels_seen, ties_seen, guard_seen}
 use Rattle.desk_world.specs.Plain.{snapshot_seen}
 use Rattle.desk_world.proofs.Derived.{derived_agrees}
+use Rattle.desk_world.proofs.KeptAgree.{kept_agrees}
 use Rattle.desk_world.proofs.Relabelled.{Agrees, rows_agree, attributes_agree, snapshots_agree}
 use Rattle.desk_world.proofs.Seated.{all_left, all_right}
 
@@ -35,12 +36,35 @@ module _ {O : Type 0} (w : World O) where
   abbrev arc_maps : List Claim
   arc_maps = map (map_claim sorts.Arc) w.arcs.maps.rows
 
-  -- those of the maps, and all that stand before the guards
+  abbrev kept_seats : List Claim
+  kept_seats = flat_map view_claims w.views.rows
+
+  -- those of the maps and of kept views, and all that stand before the guards
   abbrev pub maps_claimed : List Claim
-  maps_claimed = node_maps ++ arc_maps
+  maps_claimed = node_maps ++ (arc_maps ++ kept_seats)
 
   abbrev pub ahead : List Claim
   ahead = own_claims sorts.Node w.nodes ++ (own_claims sorts.Arc w.arcs ++ maps_claimed)
+
+  -- what holds of them holds of those of each kind
+  pub nodes_ahead : (P : Claim → Type 0) → AllOf P ahead → AllOf P node_maps
+  nodes_ahead P all = all_left P node_maps (arc_maps ++ kept_seats) all.1.1.1.1
+
+  pub arcs_ahead : (P : Claim → Type 0) → AllOf P ahead → AllOf P arc_maps
+  arcs_ahead P all =
+      all_left P arc_maps kept_seats
+      (all_right P node_maps (arc_maps ++ kept_seats) all.1.1.1.1)
+
+  pub views_ahead : (P : Claim → Type 0) → AllOf P ahead → AllOf P kept_seats
+  views_ahead P all =
+      all_right P arc_maps kept_seats
+      (all_right P node_maps (arc_maps ++ kept_seats) all.1.1.1.1)
+
+  maps_first : (rest : List Claim)
+      → node_maps ++ (arc_maps ++ (kept_seats ++ rest)) ≡ maps_claimed ++ rest
+  maps_first rest =
+      sym (append_assoc node_maps (arc_maps ++ kept_seats) rest
+      ∙ ap (λ list. node_maps ++ list) (append_assoc arc_maps kept_seats rest))
 
   abbrev pub after : List Claim
   after = flat_map snap_claims w.snapshots.rows
@@ -53,7 +77,7 @@ module _ {O : Type 0} (w : World O) where
   pub claims_are : claims_of w ≡ claims_with w.guards.rows
   claims_are =
       ap (λ list. own_claims sorts.Node w.nodes ++ (own_claims sorts.Arc w.arcs ++ list))
-      (sym (append_assoc node_maps arc_maps (map guard_claim w.guards.rows ++ after)))
+      (maps_first (map guard_claim w.guards.rows ++ after))
 
   -- a guard in the midst of others
   pub claims_midst : (front : List (Named GuardRow)) (e : Named GuardRow)
@@ -92,7 +116,7 @@ module _ {O : Type 0} (w : World O) where
     pub claims_now : claims_of with_guards ≡ claims_with rows.rows
     claims_now =
         ap (λ list. own_claims sorts.Node w.nodes ++ (own_claims sorts.Arc w.arcs ++ list))
-        (sym (append_assoc node_maps arc_maps (map guard_claim rows.rows ++ after)))
+        (maps_first (map guard_claim rows.rows ++ after))
 
   -- where the same is seen of all other claims, the guards and the pool alone are others
   pub guards_seen : (g : Digraph) (look later : Look)
@@ -107,9 +131,9 @@ module _ {O : Type 0} (w : World O) where
       let node_labels = ap labels_seen all.0 in
       let arc_labels = ap labels_seen all.1.1.0 in
       let nodes = rows_agree look later sorts.Node w.nodes.maps.rows
-      (all_left (Agrees look later) node_maps arc_maps all.1.1.1.1) in
+      (nodes_ahead (Agrees look later) all) in
       let arcs = rows_agree look later sorts.Arc w.arcs.maps.rows
-      (all_right (Agrees look later) node_maps arc_maps all.1.1.1.1) in
+      (arcs_ahead (Agrees look later) all) in
       let snapshots : looked (snapshot_seen g later) w.snapshots.rows
       ≡ looked (snapshot_seen g look) w.snapshots.rows =
       snapshots_agree look later g w.snapshots.rows halves in
@@ -140,14 +164,16 @@ module _ {O : Type 0} (watch : O → Watched) (w : World O) (rows : Rows GuardRo
       seated = subst (λ list. AreSeated list (chains_seen watch a.chains))
           (sym (claims_now w rows boxes a)) seated;
       boxes = told_nothing;
-      bare = record {
-        views = in_step.bare.views;
-      };
       snaps = snaps ∙ in_step.snaps;
       derived = derived_agrees (look_of watch w) (look_in (chains_seen watch a.chains)) w.nodes
           w.arcs w.attributes.rows agree.1.0 agree.1.1.1.0
-          (all_left (Agrees (look_of watch w) (look_in (chains_seen watch a.chains))) (node_maps w)
-          (arc_maps w) agree.1.1.1.1)
-          (all_right (Agrees (look_of watch w) (look_in (chains_seen watch a.chains))) (node_maps w)
-          (arc_maps w) agree.1.1.1.1) in_step.derived;
+          (nodes_ahead w (Agrees (look_of watch w) (look_in (chains_seen watch a.chains))) agree)
+          (arcs_ahead w (Agrees (look_of watch w) (look_in (chains_seen watch a.chains))) agree)
+          in_step.derived;
+      kept = kept_agrees (look_of watch w) (look_in (chains_seen watch a.chains)) w.nodes w.arcs
+          w.views.rows
+          (views_ahead w (Agrees (look_of watch w) (look_in (chains_seen watch a.chains))) agree)
+          (nodes_ahead w (Agrees (look_of watch w) (look_in (chains_seen watch a.chains))) agree)
+          (arcs_ahead w (Agrees (look_of watch w) (look_in (chains_seen watch a.chains))) agree)
+          in_step.kept;
     }

@@ -56,7 +56,7 @@ fill_starts (t ∷ ts) (e ∷ es) same all =
     ∙ ap (λ b. cond b e (with_value e.id false) ∷ filled 0 es) (sym (le-ltb e.id 0 (omega arith)))
 
 -- an item of another id is as it was
-passed : (n id : ℕ) → (id ≡ n → ⊥) → nat_lt id (n + 1) ≡ nat_lt id n
+pub passed : (n id : ℕ) → (id ≡ n → ⊥) → nat_lt id (n + 1) ≡ nat_lt id n
 passed n id apart = elim (cases_lt id n) [
   | inl below ↦
       lt-ltb id (n + 1) (omega (arith, below)) ∙ sym (lt-ltb id n below)
@@ -114,7 +114,7 @@ all_map : {X Y : Type 0} (P : Y → Type 0) (f : X → Y) (xs : List X) → AllO
 all_map P f [] all = tt
 all_map P f (x ∷ xs) all = (all.0, all_map P f xs all.1)
 
-map_all : {X Y : Type 0} (P : Y → Type 0) (f : X → Y) (xs : List X) → AllOf P (map f xs)
+pub map_all : {X Y : Type 0} (P : Y → Type 0) (f : X → Y) (xs : List X) → AllOf P (map f xs)
     → AllOf (λ x. P (f x)) xs
 map_all P f [] all = tt
 map_all P f (x ∷ xs) all = (all.0, map_all P f xs all.1)

@@ -40,7 +40,7 @@ use Rattle.desk_world.proofs.Relabelled.{Agrees}
 use Rattle.desk_world.proofs.Seated.{all_left, all_right, all_both, all_so, all_and}
 
 -- what stands under a name stands there with a row more
-still_stands : {X : Type 0} (table : List (Named X)) (name other : Name) (row x : X)
+pub still_stands : {X : Type 0} (table : List (Named X)) (name other : Name) (row x : X)
     → entry table other ≡ Some x → entry (with_entry table name row) other ≡ Some x
 still_stands [] name other row x found = absurd (none-some x found)
 still_stands {X} (e ∷ es) name other row x found =
@@ -117,7 +117,7 @@ module _ (look : ℕ → Option Seen) (table : List (Named MapRow)) (name : Name
 
 -- ---- a map that nothing reads
 
-none_found : {X : Type 0} (test : X → Bool) (xs : List X) → find test xs ≡ None
+pub none_found : {X : Type 0} (test : X → Bool) (xs : List X) → find test xs ≡ None
     → AllOf (λ x. test x ≡ false) xs
 none_found test [] none = tt
 none_found {X} test (x ∷ xs) none =
@@ -127,9 +127,13 @@ none_found {X} test (x ∷ xs) none =
       | false ↦ λ is found. (is, none_found test xs found)
     ] refl none
 
-nothing_mapped : {X Y : Type 0} (f : X → Y) (o : Option X) → option_map f o ≡ None → o ≡ None
+pub nothing_mapped : {X Y : Type 0} (f : X → Y) (o : Option X) → option_map f o ≡ None → o ≡ None
 nothing_mapped f None none = refl
 nothing_mapped f (Some x) none = absurd (none-some (f x) (sym none))
+
+pub first_none : {X : Type 0} (o p : Option X) → option_or o p ≡ None → o ≡ None
+first_none None p none = refl
+first_none (Some x) p none = absurd (none-some x (sym none))
 
 second_none : {X : Type 0} (o p : Option X) → option_or o p ≡ None → p ≡ None
 second_none None p none = none

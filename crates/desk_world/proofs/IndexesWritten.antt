@@ -1,13 +1,14 @@
 -- A world in which a value was written to a map, and to each index of it.
 use Rattle.std.proofs.Common.{◌≡◌, ℕ, ◌+◌, ◌≤◌, Bool, true, false, cond, List, [], ◌∷◌, ◌++◌, map}
 use Rattle.std.proofs.Common.{length, refl, sym, ap, subst, Option, Some, ◌∙◌, arith}
-use Rattle.std.specs.Prelude.{option_map, slice_get, find}
+use Rattle.std.specs.Prelude.{option_map, slice_get}
 use Rattle.std.specs.Str.{bytes_eq}
 use Rattle.std.proofs.lemmas.Bool.{true≢false}
 use Rattle.std.proofs.lemmas.List.{append-nil, append_assoc}
 use Rattle.std.proofs.lemmas.Option.{none-some, same_Some}
 use Rattle.std.proofs.lemmas.Slice.Eq.{bytes_eq-Decides}
 use Rattle.base_items.specs.declared.items.ItemSort.{ItemSort}
+use Rattle.base_items.specs.declared.items.ItemSort.TheVariants as sorts
 use Rattle.plain_digraph.specs.Lists.{AllOf}
 use Rattle.plain_digraph.specs.Rising.{swapped}
 use Rattle.observe_core.specs.Held.{Entry, entry_id}
@@ -16,7 +17,7 @@ use Rattle.columns.specs.Views.{entry as with_value}
 use Rattle.alter_graph.specs.Chains.{ChainsSeen, chains_seen}
 use Rattle.alter_graph.specs.State as states
 use Rattle.alter_graph.specs.State.{AlterOf, state_of}
-use Rattle.plain_world.specs.Tables.{Name, Named, under, is_named, entry, with_change}
+use Rattle.plain_world.specs.Tables.{Name, Named, entry, with_change}
 use Rattle.plain_world.specs.World as plain
 use Rattle.plain_world.specs.Effects.{with_maps, with_map_changed}
 use Rattle.desk_world.specs.declared.tables.MapKind.{MapKind}
@@ -27,9 +28,11 @@ use Rattle.desk_world.specs.declared.values.Value.TheVariants as values
 use Rattle.desk_world.specs.declared.world.World.{World}
 use Rattle.desk_world.specs.Claims as claims
 use Rattle.desk_world.specs.Claims.{Plays, Sits, ClaimsDiffer, claims_of, role_of}
-use Rattle.desk_world.specs.Derived.{AreIndexed, IsIndexed, bools_seen, trues_seen}
+use Rattle.desk_world.specs.Derived.{AreDerived, AreIndexed, IsIndexed, bools_seen, trues_seen}
 use Rattle.desk_world.specs.Indexes.{is_index_kind, trues_with}
-use Rattle.desk_world.specs.InStep.{AreInStep, AreSeated}
+use Rattle.desk_world.specs.InStep.{AreInStep}
+use Rattle.desk_world.specs.MapTables.{with_table}
+use Rattle.desk_world.specs.Placing.{AreUnplaced}
 use Rattle.desk_world.specs.Looks.{Look, look_in}
 use Rattle.desk_world.specs.Plain.{plain_of, look_of, kinds_of, tables_of, map_seen, seat_sort}
 use Rattle.desk_world.specs.Plain.{held_by, world_seen}
@@ -37,8 +40,10 @@ use Rattle.desk_world.specs.Seating.{Puts}
 use Rattle.desk_world.specs.Values.{put_at}
 use Rattle.desk_world.proofs.Changing.{looked_changed, ChangesAt}
 use Rattle.desk_world.proofs.Indexed.{derived_with}
-use Rattle.desk_world.proofs.MapTables.{same_rows_world, claims_with, claims_are, maps_seen}
-use Rattle.desk_world.proofs.MapTables.{maps_plain, plain_later, rows_in_step, with_rows}
+use Rattle.desk_world.proofs.KeptUnplaced.{written_views}
+use Rattle.desk_world.proofs.NamedRows.{of_named}
+use Rattle.desk_world.proofs.MapTables.{same_rows_world, claims_with, maps_seen}
+use Rattle.desk_world.proofs.MapTables.{maps_plain, plain_later, with_rows}
 use Rattle.desk_world.proofs.MapsComing.{own_indexes}
 use Rattle.desk_world.proofs.MapsWritten.{AreKept, RowShows, Shows, EntriesShow, bools_with}
 use Rattle.desk_world.proofs.MapsWritten.{row_passes, rows_stay, front_same, back_same, others_same}
@@ -52,22 +57,6 @@ use Rattle.notify_chain.specs.Seats.{put_seat}
 use Rattle.desk_world.proofs.Seated.{all_right, all_both, all_so, all_and, maps_sit}
 
 -- ---- rows
-
--- what holds of all rows holds of what stands under a name
-of_named : {X : Type 0} (P : Named X → Type 0) (table : List (Named X)) (name : Name) (x : X)
-    → AllOf P table → entry table name ≡ Some x → P (under name x)
-of_named P [] name x all found = absurd (none-some x found)
-of_named {X} P (e ∷ es) name x all found =
-    let rest = of_named P es name x all.1 in
-    elim (bytes_eq e.name name) as (λ b. bytes_eq e.name name ≡ b
-    → option_map (λ (f : Named X). f.value) (cond b (Some e) (find (is_named name) es)) ≡ Some x
-    → P (under name x)) [
-      | true ↦ λ same is.
-          let own : e.name ≡ name = (bytes_eq-Decides e.name name).0 same in
-          let value : e.value ≡ x = same_Some e.value x is in
-          subst (λ (f : Named X). P f) (λ i. under (own i) (value i)) all.0
-      | false ↦ λ other is. rest is
-    ] refl found
 
 -- the first row of those that are ahead
 pub record Next {X : Type 0} (ahead : List (Named X)) (value : X) : Type 0 where
@@ -84,13 +73,13 @@ next_row [] (e ∷ rest) value at =
     record { e = e; rest = rest; is = refl; has = same_Some e.value value at }
 next_row (d ∷ done) ahead value at = next_row done ahead value at
 
-none_ahead : {X : Type 0} (done ahead : List X) → length (done ++ ahead) ≤ length done
+pub none_ahead : {X : Type 0} (done ahead : List X) → length (done ++ ahead) ≤ length done
     → ahead ≡ []
 none_ahead [] [] few = refl
 none_ahead [] (e ∷ rest) few = absurd (omega (arith, few))
 none_ahead (d ∷ done) ahead few = none_ahead done ahead (omega (arith, few))
 
-one_longer : {X : Type 0} (done : List X) (e : X) → length (done ++ e ∷ []) ≡ length done + 1
+pub one_longer : {X : Type 0} (done : List X) (e : X) → length (done ++ e ∷ []) ≡ length done + 1
 one_longer [] e = refl
 one_longer (d ∷ done) e = let rest = one_longer done e in omega (arith, rest)
 
@@ -164,14 +153,29 @@ module _ {O : Type 0} (watch : O → Watched) (w : World O) (in_step : AreInStep
         (all_and (λ (e : Named MapRow). IsIndexed (was sort) rows e.value.kind e.value.key.0)
         (Done a) rows (own_indexes w sort was in_step.derived) all)
 
-    pub written_in_step : AreInStep watch (record w { graph = a })
-    written_in_step =
-        subst (AreInStep watch) (same_rows_world w sort a)
-        (rows_in_step watch w (tables_of w sort).maps a in_step kept.then sort
-        (derived_with was (look_at a) w sort (tables_of w sort).maps kept.others indexed
-        in_step.derived) kept.snaps
-        (subst (λ list. AreSeated list (chains_seen watch a.chains)) (claims_are w sort)
-        kept.seated))
+    -- the item is still to be placed in kept views
+    pub written_unplaced : AreUnplaced watch sort id (record w { graph = a })
+    written_unplaced = record {
+      graph = kept.then;
+      seated = kept.seated;
+      boxes = in_step.boxes;
+      snaps = kept.snaps ∙ in_step.snaps;
+      derived = subst (λ (v : World O). AreDerived (look_at a) v.nodes v.arcs v.attributes.rows)
+          (same_rows_world w sort a)
+          (derived_later sort (derived_with was (look_at a) w sort (tables_of w sort).maps
+          kept.others indexed in_step.derived));
+      reading = in_step.kept.reading;
+      placed = written_views was (look_at a) w sort id name value now all kept.others in_step.kept;
+    }
+      where
+        derived_later : (x : ItemSort) → AreDerived (look_at a)
+            (with_table w x (tables_of w x).maps).nodes (with_table w x (tables_of w x).maps).arcs
+            w.attributes.rows
+            → AreDerived (look_at a) (with_rows w x (tables_of w x).maps a).nodes
+            (with_rows w x (tables_of w x).maps a).arcs
+            (with_rows w x (tables_of w x).maps a).attributes.rows
+        derived_later sorts.Node d = d
+        derived_later sorts.Arc d = d
 
     pub written_plain : plain_of watch (record w { graph = a })
         ≡ with_map_changed (plain_of watch w) sort name (put_at value id)

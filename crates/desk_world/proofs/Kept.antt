@@ -23,6 +23,7 @@ use Rattle.desk_world.specs.declared.tables.GuardRow.{GuardRow}
 use Rattle.desk_world.specs.declared.world.World.{World}
 use Rattle.desk_world.specs.Claims.{Claim, Sits, Plays, claims_of}
 use Rattle.desk_world.specs.Derived.{AreDerived}
+use Rattle.desk_world.specs.KeptViews.{AreKept}
 use Rattle.desk_world.specs.InStep.{AreInStep}
 use Rattle.desk_world.specs.Looks.{Look, look_in}
 use Rattle.desk_world.specs.Plain.{plain_of, world_seen, kinds_of}
@@ -152,12 +153,10 @@ module _ {O : Type 0} (watch : O → Watched) (step : PlainStep) (w : World O) (
             (sits_then x sits)) (claims_of w) in_step.seated.there)
             none_left;
         boxes = in_step.boxes;
-        bare = record {
-          views = in_step.bare.views;
-        };
         snaps = went.chains.snaps ∙ snaps_told step s ∙ in_step.snaps;
         derived = subst (λ look. AreDerived look w.nodes w.arcs w.attributes.rows) (sym looks)
             next.derived;
+        kept = subst (λ look. AreKept look w.nodes w.arcs w.views.rows) (sym looks) next.kept;
       }
 
   pub plain_follows : plain_of watch later ≡ follow (plain_of watch w) step

@@ -18,11 +18,15 @@ use Rattle.plain_world.specs.Tables.{Named, under}
 use Rattle.desk_names.specs.Rows.{Rows}
 use Rattle.desk_seats.specs.Contents.{labels_in}
 use Rattle.desk_world.specs.declared.tables.GuardRow.{GuardRow}
+use Rattle.desk_world.specs.declared.tables.KeptKeys.{KeptKeys}
+use Rattle.desk_world.specs.declared.tables.ViewRow.{ViewRow}
 use Rattle.desk_world.specs.declared.tables.MapRow.{MapRow}
 use Rattle.desk_world.specs.declared.world.World.{World}
 use Rattle.desk_world.specs.Claims.{claims_of, guard_claim, map_claim}
-use Rattle.desk_world.specs.Claims.{own_claims, snap_claims}
+use Rattle.desk_world.specs.Claims.{own_claims, snap_claims, view_claims, Claim}
+use Rattle.desk_world.specs.Claims.{kept_claims as seats_of}
 use Rattle.desk_world.specs.Derived.{AreDerived}
+use Rattle.desk_world.specs.KeptViews.{AreKept}
 use Rattle.desk_world.specs.Entries.{labels_at, room_for_labels}
 use Rattle.desk_world.specs.InStep.{AreInStep, AreSeated}
 use Rattle.desk_world.specs.Leaving.{AreAltered, still_claimed, with_none_left, is_still}
@@ -55,6 +59,20 @@ module _ (c : ChainsSeen) where
         of es,
       )
 
+  views_kept : (table : List (Named ViewRow))
+      → filter (is_still c) (flat_map view_claims table) ≡ flat_map view_claims table
+  views_kept table = all_kept (is_still c) (flat_map view_claims table) (of table)
+    where
+      one : (kept : Option KeptKeys) (more : List Claim) → AllOf (λ x. is_still c x ≡ true) more
+          → AllOf (λ x. is_still c x ≡ true) (option_map_or seats_of kept [] ++ more)
+      one None more rest = rest
+      one (Some keys) more rest = (refl, (refl, rest))
+
+      of : (table : List (Named ViewRow))
+          → AllOf (λ x. is_still c x ≡ true) (flat_map view_claims table)
+      of [] = tt
+      of (e ∷ es) = one e.value.kept (flat_map view_claims es) (of es)
+
   halves_kept : (table : List (Named SnapKeys))
       → filter (is_still c) (flat_map snap_claims table) ≡ flat_map snap_claims table
   halves_kept table = all_kept (is_still c) (flat_map snap_claims table) (of table)
@@ -83,8 +101,9 @@ module _ (c : ChainsSeen) where
       ++ (own_claims sorts.Arc w.arcs
       ++ (map (map_claim sorts.Node) w.nodes.maps.rows
       ++ (map (map_claim sorts.Arc) w.arcs.maps.rows
+      ++ (flat_map view_claims w.views.rows
       ++ (map guard_claim (there_rows (look_in c) w.guards.rows)
-      ++ flat_map snap_claims w.snapshots.rows))))
+      ++ flat_map snap_claims w.snapshots.rows)))))
   claims_kept w =
       let f = is_still c in
       let nodes = map (map_claim sorts.Node) w.nodes.maps.rows in
@@ -93,9 +112,12 @@ module _ (c : ChainsSeen) where
       let halves = flat_map snap_claims w.snapshots.rows in
       let first = filter-append f guards halves
       ∙ (λ i. guards_kept w.guards.rows i ++ halves_kept w.snapshots.rows i) in
-      let second = filter-append f arcs (guards ++ halves)
-      ∙ (λ i. maps_kept sorts.Arc w.arcs.maps.rows i ++ first i) in
-      let third = filter-append f nodes (arcs ++ (guards ++ halves))
+      let views = flat_map view_claims w.views.rows in
+      let kept = filter-append f views (guards ++ halves)
+      ∙ (λ i. views_kept w.views.rows i ++ first i) in
+      let second = filter-append f arcs (views ++ (guards ++ halves))
+      ∙ (λ i. maps_kept sorts.Arc w.arcs.maps.rows i ++ kept i) in
+      let third = filter-append f nodes (arcs ++ (views ++ (guards ++ halves)))
       ∙ (λ i. maps_kept sorts.Node w.nodes.maps.rows i ++ second i) in
       λ i. own_claims sorts.Node w.nodes ++ (own_claims sorts.Arc w.arcs ++ third i)
 
@@ -151,12 +173,10 @@ module _ {O : Type 0} (watch : O → Watched) (w : World O) (a : AlterOf O) (gua
       seated = subst (AreSeated (claims_of later)) (sym taken)
           (subst (λ list. AreSeated list (with_none_left c)) (sym claims_are) altered.seated);
       boxes = altered.boxes;
-      bare = record {
-        views = altered.bare.views;
-      };
       snaps = ap (λ x. x.snaps) taken ∙ altered.snaps;
       derived = subst (λ look. AreDerived look w.nodes w.arcs w.attributes.rows) (sym same_look)
           altered.derived;
+      kept = subst (λ look. AreKept look w.nodes w.arcs w.views.rows) (sym same_look) altered.kept;
     }
 
     -- nothing else is seen than before
@@ -187,7 +207,8 @@ module _ {O : Type 0} (watch : O → Watched) (w : World O) (a : AlterOf O) (gua
         ++ (own_claims sorts.Arc w.arcs
         ++ (map (map_claim sorts.Node) w.nodes.maps.rows
         ++ (map (map_claim sorts.Arc) w.arcs.maps.rows
-        ++ (map guard_claim (kept i) ++ flat_map snap_claims w.snapshots.rows)))))
+        ++ (flat_map view_claims w.views.rows
+        ++ (map guard_claim (kept i) ++ flat_map snap_claims w.snapshots.rows))))))
         ∙ sym (claims_kept c w)
 
     kept_seen : looked (guard_seen (look_in c)) guards.rows

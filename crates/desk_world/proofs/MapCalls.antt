@@ -28,6 +28,7 @@ use Rattle.desk_world.proofs.Indexed.{unread_rows}
 use Rattle.desk_world.proofs.MapTables.{with_rows, table_first, table_twice, pool_stays}
 use Rattle.desk_world.proofs.MapTables.{same_in_step, same_plain}
 use Rattle.desk_world.proofs.MapsComing.{more_in_step, map_came, none_in_step, none_gone}
+use Rattle.desk_world.proofs.KeptTables.{unread_views}
 use Rattle.desk_world.proofs.MapsComing.{less_in_step, map_gone}
 use Rattle.desk_world.proofs.MapsFound.{map_there}
 use Rattle.desk_world.proofs.NamedRows.{stands}
@@ -167,10 +168,12 @@ module _ {O : Type 0} (watch : O → Watched) (sort : ItemSort) where
         ∙ ap (λ (b : AlterOf O). detached (seat_sort sort row.kind) row.key.0
         (chains_seen watch b.chains)) was in
         let unread = unread_rows watch old in_step sort name nothing_reads in
+        let unseen = unread_views watch old sort name nothing_reads in
         let same = same_graph ∙ ap (λ (b : AlterOf O). b.graph) was in
         let after = then (subst (λ b. graph.IsInStep (state_of watch b)) (sym was) in_step.graph) in
         subst (λ (w : World O). Went name old (record w { graph = a })) (sym is) (record {
-          in_step = less_in_step watch old sort left a name in_step less row at unread gone same
+          in_step = less_in_step watch old sort left a name in_step less row at unread unseen gone
+              same after;
+          gone = map_gone watch old sort left a name in_step less row at unread unseen gone same
               after;
-          gone = map_gone watch old sort left a name in_step less row at unread gone same after;
         })

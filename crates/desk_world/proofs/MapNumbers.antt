@@ -52,7 +52,7 @@ module _ (world : World) where
       of None = refl
       of (Some e) = refl
 
-  agrees_at : (sort : ItemSort) (name : Name)
+  pub agrees_at : (sort : ItemSort) (name : Name)
       → AgreesAt (number_of world) (values_of world) (numbered world) sort name
   agrees_at sort name = record {
     int = λ id. by_number (λ held. int_at held id) (pos 0) sort name;
@@ -91,7 +91,7 @@ module _ (world : World) where
           (found_named name (maps sorts.Arc) e found)
           ∙ at_type (type_of e.value)
 
-  agrees_on_arcs : (name : Name)
+  pub agrees_on_arcs : (name : Name)
       → AgreesOnArcs (number_of world) (values_of world) (numbered world) name
   agrees_on_arcs name = record {
     values = agrees_at sorts.Arc name;

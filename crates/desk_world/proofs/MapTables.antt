@@ -21,15 +21,17 @@ use Rattle.desk_names.specs.Rows.{Rows}
 use Rattle.desk_world.specs.declared.tables.MapRow.{MapRow}
 use Rattle.desk_world.specs.declared.world.World.{World}
 use Rattle.desk_world.specs.Claims.{Claim, claims_of, own_claims, map_claim, guard_claim}
-use Rattle.desk_world.specs.Claims.{snap_claims}
+use Rattle.desk_world.specs.Claims.{snap_claims, view_claims}
 use Rattle.desk_world.specs.InStep.{AreInStep, AreSeated}
 use Rattle.desk_world.specs.Derived.{AreDerived}
+use Rattle.desk_world.specs.KeptViews.{AreKept}
 use Rattle.desk_world.specs.Looks.{Look, looked, look_in}
 use Rattle.desk_world.specs.MapTables.{with_table}
 use Rattle.desk_world.specs.Plain.{world_seen, map_seen, labels_seen, ties_seen}
 use Rattle.desk_world.specs.Plain.{guard_seen, snapshot_seen, tables_of, plain_of, look_of}
 use Rattle.desk_world.specs.Plain.{kinds_of}
 use Rattle.desk_world.proofs.Derived.{derived_rows}
+use Rattle.desk_world.proofs.KeptAgree.{kept_rows}
 use Rattle.desk_world.proofs.Relabelled.{Agrees, rows_agree, guards_agree, attributes_agree}
 use Rattle.desk_world.proofs.Relabelled.{snapshots_agree}
 use Rattle.desk_world.proofs.Seated.{all_left, all_right}
@@ -68,8 +70,11 @@ module _ {O : Type 0} where
 
   -- ---- its claims
 
+  abbrev pub last_claims : World O → List Claim
+  last_claims w = map guard_claim w.guards.rows ++ flat_map snap_claims w.snapshots.rows
+
   abbrev pub other_claims : World O → List Claim
-  other_claims w = map guard_claim w.guards.rows ++ flat_map snap_claims w.snapshots.rows
+  other_claims w = flat_map view_claims w.views.rows ++ last_claims w
 
   -- those before the maps of the sort, and those behind
   abbrev pub before : World O → ItemSort → List Claim
@@ -96,14 +101,20 @@ module _ {O : Type 0} where
   claims_are w sorts.Node = refl
   claims_are w sorts.Arc = refl
 
+  -- all but the maps of the other sort stand behind
+  pub others_behind : (P : Claim → Type 0) (w : World O) (sort : ItemSort)
+      → AllOf P (behind w sort) → AllOf P (other_claims w)
+  others_behind P w sorts.Node all =
+      all_right P (map (map_claim sorts.Arc) w.arcs.maps.rows) (other_claims w) all
+  others_behind P w sorts.Arc all = all
+
   -- the halves of snapshots stand behind the maps
   pub halves_behind : (P : Claim → Type 0) (w : World O) (sort : ItemSort)
       → AllOf P (behind w sort) → AllOf P (flat_map snap_claims w.snapshots.rows)
-  halves_behind P w sorts.Node all =
+  halves_behind P w sort all =
       all_right P (map guard_claim w.guards.rows) (flat_map snap_claims w.snapshots.rows)
-      (all_right P (map (map_claim sorts.Arc) w.arcs.maps.rows) (other_claims w) all)
-  halves_behind P w sorts.Arc all =
-      all_right P (map guard_claim w.guards.rows) (flat_map snap_claims w.snapshots.rows) all
+      (all_right P (flat_map view_claims w.views.rows) (last_claims w)
+      (others_behind P w sort all))
 
   -- a map in the midst of others
   pub claims_midst : (w : World O) (sort : ItemSort) (front : List (Named MapRow))
@@ -135,6 +146,11 @@ module _ {O : Type 0} where
 
   module _ (w : World O) (g : Digraph) (look later : Look)
       (pool : List GuardWord) (a : AlterOf O) where
+    last : AllOf (Agrees look later) (other_claims w)
+        → AllOf (Agrees look later) (last_claims w)
+    last agree =
+        all_right (Agrees look later) (flat_map view_claims w.views.rows) (last_claims w) agree
+
     others : AllOf (Agrees look later) (other_claims w)
         → (looked (guard_seen later) w.guards.rows ≡ looked (guard_seen look) w.guards.rows)
         × (looked (snapshot_seen g later) w.snapshots.rows
@@ -142,10 +158,10 @@ module _ {O : Type 0} where
     others agree = (
       guards_agree look later w.guards.rows
           (all_left (Agrees look later) (map guard_claim w.guards.rows)
-          (flat_map snap_claims w.snapshots.rows) agree),
+          (flat_map snap_claims w.snapshots.rows) (last agree)),
       snapshots_agree look later g w.snapshots.rows
           (all_right (Agrees look later) (map guard_claim w.guards.rows)
-          (flat_map snap_claims w.snapshots.rows) agree),
+          (flat_map snap_claims w.snapshots.rows) (last agree)),
     )
 
     -- where the same is seen of all other claims, the maps of the sort alone are others
@@ -217,28 +233,26 @@ module _ {O : Type 0} (watch : O → Watched) (w : World O) (rows : Rows MapRow)
     pub rows_in_step : (sort : ItemSort)
         → AreDerived (look_in (chains_seen watch a.chains)) (with_table w sort rows).nodes
         (with_table w sort rows).arcs w.attributes.rows
+        → AreKept (look_in (chains_seen watch a.chains)) (with_table w sort rows).nodes
+        (with_table w sort rows).arcs w.views.rows
         → (chains_seen watch a.chains).snaps ≡ (chains_seen watch w.graph.chains).snaps
         → AreSeated (claims_with w sort rows.rows) (chains_seen watch a.chains)
         → AreInStep watch (with_rows w sort rows a)
-    rows_in_step sorts.Node derived snaps seated = record {
+    rows_in_step sorts.Node derived kept snaps seated = record {
       graph = then;
       seated = seated;
       boxes = in_step.boxes;
-      bare = record {
-        views = in_step.bare.views;
-      };
       snaps = snaps ∙ in_step.snaps;
       derived = derived;
+      kept = kept;
     }
-    rows_in_step sorts.Arc derived snaps seated = record {
+    rows_in_step sorts.Arc derived kept snaps seated = record {
       graph = then;
       seated = seated;
       boxes = in_step.boxes;
-      bare = record {
-        views = in_step.bare.views;
-      };
       snaps = snaps ∙ in_step.snaps;
       derived = derived;
+      kept = kept;
     }
 
 -- ---- the same rows, with more room
@@ -258,7 +272,8 @@ module _ {O : Type 0} (watch : O → Watched) (w : World O) (sort : ItemSort) (r
   pub same_in_step : AreInStep watch (with_rows w sort rows w.graph)
   same_in_step =
       rows_in_step watch w rows w.graph in_step in_step.graph sort
-      (derived_rows (look_of watch w) w sort rows same in_step.derived) refl
+      (derived_rows (look_of watch w) w sort rows same in_step.derived)
+      (kept_rows (look_of watch w) w sort rows same in_step.kept) refl
       (subst (λ list. AreSeated list (chains_seen watch w.graph.chains))
       (claims_are w sort ∙ ap (claims_with w sort) (sym same)) in_step.seated)
 

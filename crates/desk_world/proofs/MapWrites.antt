@@ -23,10 +23,11 @@ use Rattle.desk_world.specs.Claims.{Plays, Sits, role_of}
 use Rattle.desk_world.specs.Derived.{bools_seen}
 use Rattle.desk_world.specs.InStep.{AreInStep, has_values}
 use Rattle.desk_world.specs.Looks.{look_in}
+use Rattle.desk_world.specs.Placing.{AreUnplaced}
 use Rattle.desk_world.specs.Plain.{plain_of, look_of, tables_of}
 use Rattle.desk_world.specs.Seating.{Puts}
 use Rattle.desk_world.specs.Values.{HasType, HasItem, kind_for, type_for, put_at, held_with}
-use Rattle.desk_world.proofs.IndexesWritten.{all_done, written_in_step, written_plain}
+use Rattle.desk_world.proofs.IndexesWritten.{all_done, written_unplaced, written_plain}
 use Rattle.desk_world.proofs.MapsComing.{for_values}
 use Rattle.desk_world.proofs.MapsFound.{Leads, map_found, map_type, own_sort, type_by}
 use Rattle.desk_world.proofs.MapsWritten.{AreKept, Shows, own_role, bools_with, item_held, kept}
@@ -107,9 +108,9 @@ module _ {O : Type 0} (watch : O → Watched) (w : World O) (in_step : AreInStep
         no_bools : row.kind ≡ maps.Bools → ⊥
         no_bools is = apart (sym is_kind ∙ is)
 
-        pub value_in_step : AreInStep watch (record w { graph = a })
-        value_in_step =
-            written_in_step watch w in_step sort name row found value id a all_kept
+        pub value_unplaced : AreUnplaced watch sort id (record w { graph = a })
+        value_unplaced =
+            written_unplaced watch w in_step sort name row found value id a all_kept
             (all_done watch w in_step sort name row found value id a no_bools all_ahead)
 
         pub value_written : plain_of watch (record w { graph = a })

@@ -1,5 +1,6 @@
 -- A world to which a map came, and one from which a map went.
-use Rattle.std.proofs.Common.{◌≡◌, true, List, [], ◌∷◌, ◌++◌, map, refl, sym, ap, subst, Some, None}
+use Rattle.std.proofs.Common.{◌≡◌, true, false, List, [], ◌∷◌, ◌++◌, map, refl, sym, ap}
+use Rattle.std.proofs.Common.{subst, Some, None}
 use Rattle.std.proofs.Common.{◌∙◌}
 use Rattle.std.specs.Prelude.{option_map}
 use Rattle.std.proofs.lemmas.List.{append-nil, map-append}
@@ -24,12 +25,15 @@ use Rattle.plain_world.specs.Tables.{Name, Named, under, entry, with_entry, with
 use Rattle.plain_world.specs.World as plain
 use Rattle.plain_world.specs.World.{attached}
 use Rattle.plain_world.specs.Effects.{with_maps, with_map, new_map}
+use Rattle.plain_world.specs.Views.{reads}
+use Rattle.plain_world.proofs.TableChanges.{other_without}
 use Rattle.desk_names.specs.Rows.{Rows}
 use Rattle.desk_world.specs.declared.tables.MapRow.{MapRow}
 use Rattle.desk_world.specs.declared.world.World.{World}
 use Rattle.desk_world.specs.Claims.{Claim, Role, Plays, role_of, claim, claims_of, map_claim}
 use Rattle.desk_world.specs.Derived.{AreDerived, AreIndexed, IsIndexed}
 use Rattle.desk_world.specs.InStep.{AreInStep, AreSeated, has_values}
+use Rattle.desk_world.specs.KeptViews.{views_of}
 use Rattle.desk_world.specs.Looks.{Look, look_in, looked}
 use Rattle.desk_world.specs.Plain.{plain_of, look_of, kinds_of, tables_of, map_seen, held_by}
 use Rattle.desk_world.specs.Plain.{world_seen, seat_sort}
@@ -41,6 +45,7 @@ use Rattle.desk_world.proofs.Changing.{looked_more, looked_less}
 use Rattle.desk_world.proofs.Claimed.{look_comes, agree_comes, seats_comes, agree_less, seats_less}
 use Rattle.desk_world.proofs.Derived.{indexes_agree}
 use Rattle.desk_world.proofs.GuardOrder.{map_comes, map_role}
+use Rattle.desk_world.proofs.KeptTables.{kept_more, kept_but}
 use Rattle.desk_world.proofs.MapTables.{with_rows, before, behind, claims_with, claims_are}
 use Rattle.desk_world.proofs.MapTables.{claims_midst, claims_apart, maps_seen, rows_in_step}
 use Rattle.desk_world.proofs.MapTables.{plain_later, maps_plain, same_in_step, same_plain, own_maps}
@@ -185,6 +190,7 @@ module _ {O : Type 0} (watch : O → Watched) (w : World O) (sort : ItemSort) (r
       (indexed_more (now sort) table name row
       (indexes_agree look now sort table table_agrees indexes_are) indexed))
       in_step.derived)
+      (kept_more look now w sort rows name row put others_show table_agrees in_step.kept)
       (ap (λ x. x.snaps) comes.is
       ∙ snaps_stay chain (with_seats (seats_in chain earlier ++ comes.seat ∷ [])) earlier)
       (subst (λ list. AreSeated list since)
@@ -252,6 +258,8 @@ module _ {O : Type 0} (watch : O → Watched) (w : World O) (sort : ItemSort) (r
   -- the seat of its row went
   module _ (row : MapRow) (at : Stands all_rows name row)
       (unread : IsUnread name all_rows)
+      (unseen : AllOf (λ (e : Named plain.View). reads sort name e.value.layer ≡ false)
+      (views_of w.views.rows))
       (gone : chains_seen watch a.chains ≡ detached (seat_sort sort row.kind) row.key.0 c)
       (same_graph : a.graph ≡ w.graph.graph) (then : graph.IsInStep (state_of watch a)) where
     abbrev rest : List (Named MapRow)
@@ -310,6 +318,9 @@ module _ {O : Type 0} (watch : O → Watched) (w : World O) (sort : ItemSort) (r
         (indexed_less (was sort) all_rows name row at unread
         (own_indexes w sort was in_step.derived))))
         in_step.derived)
+        (kept_but was seen_now w sort rows name row at
+        (λ other apart. ap (λ list. entry list other) less
+        ∙ other_without all_rows name other apart) unseen others_agree rest_agrees in_step.kept)
         (ap (λ x. x.snaps) gone
         ∙ ap (filter (λ k. not (uses_key chain_of row.key.0 k))) in_step.snaps
         ∙ snaps_left chain_of row.key.0 w.snapshots.rows

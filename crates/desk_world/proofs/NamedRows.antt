@@ -1,6 +1,6 @@
 -- Where a name stands in a table of names that differ.
 use Rattle.std.proofs.Common.{◌≡◌, true, false, cond, not, List, [], ◌∷◌, ◌++◌, map, refl}
-use Rattle.std.proofs.Common.{sym, ap}
+use Rattle.std.proofs.Common.{sym, ap, subst}
 use Rattle.std.proofs.Common.{Some, None, ◌∙◌}
 use Rattle.std.specs.Prelude.{option_map, find}
 use Rattle.std.specs.Str.{bytes_eq}
@@ -91,3 +91,19 @@ module _ {X : Type 0} where
               behind = rest.behind;
             }
       ] refl found
+
+-- what holds of all rows holds of what stands under a name
+pub of_named : {X : Type 0} (P : Named X → Type 0) (table : List (Named X)) (name : Name) (x : X)
+    → AllOf P table → entry table name ≡ Some x → P (under name x)
+of_named P [] name x all found = absurd (none-some x found)
+of_named {X} P (e ∷ es) name x all found =
+    let rest = of_named P es name x all.1 in
+    elim (bytes_eq e.name name) as (λ b. bytes_eq e.name name ≡ b
+    → option_map (λ (f : Named X). f.value) (cond b (Some e) (find (is_named name) es)) ≡ Some x
+    → P (under name x)) [
+      | true ↦ λ same is.
+          let own : e.name ≡ name = (bytes_eq-Decides e.name name).0 same in
+          let value : e.value ≡ x = same_Some e.value x is in
+          subst (λ (f : Named X). P f) (λ i. under (own i) (value i)) all.0
+      | false ↦ λ other is. rest is
+    ] refl found

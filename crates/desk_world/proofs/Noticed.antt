@@ -131,7 +131,7 @@ ValuesFit (held.Kept role all items) live = Unit {0}
 ValuesFit (held.Ties ties) live = Unit {0}
 
 module _ (t : held.MapType) where
-  abbrev entries_noticed : Notice → List (held.Entry (held.ValueOf t))
+  abbrev pub entries_noticed : Notice → List (held.Entry (held.ValueOf t))
       → List (held.Entry (held.ValueOf t))
   entries_noticed (Tells (Add f)) es = with_item entry_id (new_entry t f.id) es
   entries_noticed (Tells (Shift old now)) es = es
@@ -165,7 +165,7 @@ entries_after default (Erased id) es = without_item entry_id id es
 entries_after default (Cleared count) es = []
 entries_after default _ es = es
 
-entries_changed : (t : held.MapType) (n : Notice) (count : ℕ)
+pub entries_changed : (t : held.MapType) (n : Notice) (count : ℕ)
     (es : List (held.Entry (held.ValueOf t)))
     → entries_noticed t n es ≡ entries_after (held.default_of t) (change_by n count) es
 entries_changed t (Tells (Add f)) count es = refl
@@ -184,7 +184,7 @@ labels_noticed (Loses (Erase f)) live count es can = labels_without f.id es
 labels_noticed (Loses Clear) live count es can = refl
 
 module _ (n : Notice) (live : List Fact) (count : ℕ) (can : CanHear n live) where
-  of_values : {Y : Type 0} (t : held.MapType) (read : Held → Y) (after : Y → Y) (h : Held)
+  pub of_values : {Y : Type 0} (t : held.MapType) (read : Held → Y) (after : Y → Y) (h : Held)
       → making_of h ≡ OfValues t → ValuesFit h live
       → ((es : List (held.Entry (held.ValueOf t))) → ValuesFit (Values t es) live
       → read (Values t (entries_noticed t n es)) ≡ after (read (Values t es)))

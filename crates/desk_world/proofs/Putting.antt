@@ -69,7 +69,7 @@ module _ (sort : ItemSort) (key : ℕ) (change : Seen → Held) (c d : ChainsSee
 
 -- ---- the newest seat
 
-put_last : (t u : SeatSeen) (ss : List SeatSeen) → find_seat u.key ss ≡ None → t.key ≡ u.key
+pub put_last : (t u : SeatSeen) (ss : List SeatSeen) → find_seat u.key ss ≡ None → t.key ≡ u.key
     → put_seat u (ss ++ t ∷ []) ≡ ss ++ u ∷ []
 put_last t u [] none same =
     ap (λ b. cond b (u ∷ []) (t ∷ [])) (eq-eqb t.key u.key same)
@@ -81,7 +81,7 @@ put_last t u (s ∷ ss) none same =
       | false ↦ λ e. ap (λ more. s ∷ more) (rest e same)
     ] none
 
-twice : (sort : ItemSort) (xs ys : List SeatSeen) (c : ChainsSeen)
+pub twice : (sort : ItemSort) (xs ys : List SeatSeen) (c : ChainsSeen)
     → in_chain sort (with_seats ys) (in_chain sort (with_seats xs) c)
     ≡ in_chain sort (with_seats ys) c
 twice sorts.Node xs ys c = refl

@@ -21,7 +21,7 @@ use Rattle.desk_world.specs.declared.world.World.{World}
 use Rattle.desk_world.specs.Claims as claims
 use Rattle.desk_world.specs.Claims.{Claim, claims_of, is_claimed, ClaimsDiffer, map_claim}
 use Rattle.desk_world.specs.Claims.{guard_claim}
-use Rattle.desk_world.specs.Claims.{snap_claims, role_of}
+use Rattle.desk_world.specs.Claims.{snap_claims, view_claims, role_of}
 use Rattle.desk_world.specs.Looks.{Look, looked}
 use Rattle.desk_world.specs.Plain.{world_seen, map_seen, labels_seen, attribute_seen, ties_seen}
 use Rattle.desk_world.specs.Plain.{guard_seen, guard_by, snapshot_seen, held_by}
@@ -158,8 +158,11 @@ module _ {O : Type 0} (w : World O) (g : Digraph) (look later : Look) (pool : Li
 -- ---- where the claims of labels are
 
 module _ {O : Type 0} (w : World O) (differ : ClaimsDiffer (claims_of w)) where
+  abbrev after_views : List Claim
+  after_views = map guard_claim w.guards.rows ++ flat_map snap_claims w.snapshots.rows
+
   abbrev after_arcs : List Claim
-  after_arcs = map guard_claim w.guards.rows ++ flat_map snap_claims w.snapshots.rows
+  after_arcs = flat_map view_claims w.views.rows ++ after_views
 
   abbrev after_nodes : List Claim
   after_nodes = map (map_claim sorts.Arc) w.arcs.maps.rows ++ after_arcs
@@ -177,6 +180,21 @@ module _ {O : Type 0} (w : World O) (differ : ClaimsDiffer (claims_of w)) where
       (elsewhere sorts.Arc w.arcs.labels.0
       (claims.claim sorts.Arc w.arcs.ties.0 claims.Ties ∷ tables) differ.1.1.0).1
 
+  behind_elsewhere : (sort : ItemSort)
+      → AllOf (IsElsewhere sort (tables_of w sort).labels.0) after_arcs
+  behind_elsewhere sort =
+      all_right (IsElsewhere sort (tables_of w sort).labels.0)
+      (map (map_claim sorts.Arc) w.arcs.maps.rows) after_arcs
+      (all_right (IsElsewhere sort (tables_of w sort).labels.0)
+      (map (map_claim sorts.Node) w.nodes.maps.rows) after_nodes (all_elsewhere sort))
+
+  -- every seat of a kept view is another than that of the labels
+  pub views_elsewhere : (sort : ItemSort)
+      → AllOf (IsElsewhere sort (tables_of w sort).labels.0) (flat_map view_claims w.views.rows)
+  views_elsewhere sort =
+      all_left (IsElsewhere sort (tables_of w sort).labels.0) (flat_map view_claims w.views.rows)
+      after_views (behind_elsewhere sort)
+
   -- every guard sits elsewhere than the labels
   pub guards_elsewhere : (sort : ItemSort)
       → AllOf (IsElsewhere sort (tables_of w sort).labels.0) (map guard_claim w.guards.rows)
@@ -184,9 +202,7 @@ module _ {O : Type 0} (w : World O) (differ : ClaimsDiffer (claims_of w)) where
       all_left (IsElsewhere sort (tables_of w sort).labels.0) (map guard_claim w.guards.rows)
       (flat_map snap_claims w.snapshots.rows)
       (all_right (IsElsewhere sort (tables_of w sort).labels.0)
-      (map (map_claim sorts.Arc) w.arcs.maps.rows) after_arcs
-      (all_right (IsElsewhere sort (tables_of w sort).labels.0)
-      (map (map_claim sorts.Node) w.nodes.maps.rows) after_nodes (all_elsewhere sort)))
+      (flat_map view_claims w.views.rows) after_views (behind_elsewhere sort))
 
   -- every half of a snapshot sits elsewhere than the labels
   pub halves_elsewhere : (sort : ItemSort)
@@ -195,9 +211,7 @@ module _ {O : Type 0} (w : World O) (differ : ClaimsDiffer (claims_of w)) where
       all_right (IsElsewhere sort (tables_of w sort).labels.0) (map guard_claim w.guards.rows)
       (flat_map snap_claims w.snapshots.rows)
       (all_right (IsElsewhere sort (tables_of w sort).labels.0)
-      (map (map_claim sorts.Arc) w.arcs.maps.rows) after_arcs
-      (all_right (IsElsewhere sort (tables_of w sort).labels.0)
-      (map (map_claim sorts.Node) w.nodes.maps.rows) after_nodes (all_elsewhere sort)))
+      (flat_map view_claims w.views.rows) after_views (behind_elsewhere sort))
 
   -- every map sits elsewhere than the labels
   pub maps_elsewhere : (sort other : ItemSort)

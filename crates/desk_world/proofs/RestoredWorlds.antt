@@ -29,17 +29,19 @@ use Rattle.desk_world.specs.InStep.{AreSeated, IsInStep}
 use Rattle.desk_world.specs.Leaving.{AreAltered, still_claimed, with_none_left}
 use Rattle.desk_world.specs.Looks.{Look, look_in, looked}
 use Rattle.desk_world.specs.Plain.{kinds_of, plain_of, snapshot_seen, world_seen}
-use Rattle.desk_world.proofs.Altered.{derived_on, follows_on, seated_on, snaps_on, still_on}
+use Rattle.desk_world.proofs.Altered.{derived_on, follows_on, kept_on, seated_on, snaps_on}
+use Rattle.desk_world.proofs.Altered.{still_on}
 use Rattle.desk_world.proofs.Changing.{looked_less}
 use Rattle.desk_world.proofs.Derived.{derived_agrees}
 use Rattle.desk_world.proofs.GuardOrder.{left_detached}
-use Rattle.desk_world.proofs.GuardTables.{ahead}
+use Rattle.desk_world.proofs.GuardTables.{ahead, nodes_ahead, arcs_ahead, views_ahead}
+use Rattle.desk_world.proofs.KeptAgree.{kept_agrees}
 use Rattle.desk_world.proofs.HalvesGone.{agree_gone, names_gone, others_left, seated_gone}
 use Rattle.desk_world.proofs.NamedRows.{Stands}
 use Rattle.desk_world.proofs.Relabelled.{Agrees, snapshots_agree}
 use Rattle.desk_world.proofs.Remaining.{still_by}
 use Rattle.desk_world.proofs.Seated.{all_left, all_right}
-use Rattle.desk_world.proofs.SnapRows.{claims_before, claims_now, node_maps, arc_maps, others}
+use Rattle.desk_world.proofs.SnapRows.{claims_before, claims_now, others}
 use Rattle.desk_world.proofs.SnapRows.{snaps_show, with_snaps}
 use Rattle.desk_world.proofs.StillClaimed.{all_kept}
 use Rattle.desk_world.proofs.Takes.{TakesAll}
@@ -161,17 +163,17 @@ module _ {O : Type 0} (watch : O → Watched) (w : World O) (rows : Rows SnapKey
         graph = then;
         seated = seated_then;
         boxes = in_step.seats.boxes;
-        bare = record {
-          views = in_step.seats.bare.views;
-        };
         snaps = ap (λ (c : ChainsSeen). c.snaps) gone
             ∙ names_gone w.snapshots.rows name keys at (others w) differ r.chains
             (snaps_on watch w r steps in_step.seats goes takes)
             ∙ sym (ap (map (λ (e : Named SnapKeys). e.value)) left);
         derived = derived_agrees was now w.nodes w.arcs w.attributes.rows all.1.0 all.1.1.1.0
-            (all_left (Agrees was now) (node_maps w) (arc_maps w) all.1.1.1.1)
-            (all_right (Agrees was now) (node_maps w) (arc_maps w) all.1.1.1.1)
+            (nodes_ahead w (Agrees was now) all) (arcs_ahead w (Agrees was now) all)
             (derived_on watch w r steps in_step.seats goes takes);
+        kept = kept_agrees was now w.nodes w.arcs w.views.rows
+            (views_ahead w (Agrees was now) all) (nodes_ahead w (Agrees was now) all)
+            (arcs_ahead w (Agrees was now) all)
+            (kept_on watch w r steps in_step.seats goes takes);
         all_there = all_there_then;
       }
 

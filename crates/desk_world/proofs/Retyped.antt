@@ -46,6 +46,8 @@ use Rattle.desk_world.proofs.Derived.{indexes_agree}
 use Rattle.desk_world.proofs.GuardOrder.{map_role}
 use Rattle.desk_world.proofs.Halfway.{none_left}
 use Rattle.desk_world.proofs.Indexed.{unread_rows, indexed_less, derived_with}
+use Rattle.desk_world.proofs.KeptTables.{kept_but, unread_views}
+use Rattle.plain_world.proofs.TableChanges.{other_change}
 use Rattle.desk_world.proofs.MapTables.{with_rows, before, behind, claims_with, claims_are}
 use Rattle.desk_world.proofs.MapTables.{claims_midst, maps_seen, maps_plain, plain_later}
 use Rattle.desk_world.proofs.MapTables.{rows_in_step}
@@ -393,6 +395,10 @@ module _ {O : Type 0} (watch : O → Watched) (w : World O) (sort : ItemSort) (n
       rows_in_step watch w rows a in_step then sort
       (derived_with look next w sort rows others_agree (indexed (indexes_were sort))
       in_step.derived)
+      (kept_but look next w sort rows name row at
+      (λ other apart. ap (λ list. entry list other) put
+      ∙ other_change table name (λ _. now_row) other apart)
+      (unread_views watch w sort name unread) others_agree rest_agrees in_step.kept)
       (ap (λ x. x.snaps) chains_now ∙ snaps_stay sort (with_seats (put_seat t (seats_in sort c))) c)
       seated_now
 

@@ -15,7 +15,7 @@ use Rattle.desk_world.specs.declared.tables.MapRow.{MapRow}
 use Rattle.desk_world.specs.declared.world.World.{World}
 use Rattle.desk_world.specs.Claims as claims
 use Rattle.desk_world.specs.Claims.{Claim, Plays, Sits, claims_of, map_claim, role_of}
-use Rattle.desk_world.specs.Claims.{guard_claim, snap_claims}
+use Rattle.desk_world.specs.Claims.{guard_claim, snap_claims, view_claims}
 use Rattle.desk_world.specs.InStep.{AreSeated}
 use Rattle.desk_world.specs.Looks.{look_in}
 use Rattle.desk_world.specs.Plain.{seat_sort, tables_of}
@@ -48,6 +48,14 @@ all_and P Q (x ∷ xs) p q = ((p.0, q.0), all_and P Q xs p.1 q.1)
 
 -- ---- the claims of a world
 
+-- those of guards and snapshots
+abbrev pub last_of : {O : Type 0} → World O → List Claim
+last_of w = map guard_claim w.guards.rows ++ flat_map snap_claims w.snapshots.rows
+
+-- all but those of labels, ties and maps
+abbrev pub behind_maps : {O : Type 0} → World O → List Claim
+behind_maps w = flat_map view_claims w.views.rows ++ last_of w
+
 abbrev pub SitsIn : ChainsSeen → Claim → Type 0
 SitsIn c x = Sits x.role (look_in c x.sort x.key)
 
@@ -76,7 +84,7 @@ module _ {O : Type 0} (w : World O) (c : ChainsSeen) (seated : AreSeated (claims
   arc_claims = map (map_claim sorts.Arc) w.arcs.maps.rows
 
   abbrev rest_claims : List Claim
-  rest_claims = map guard_claim w.guards.rows ++ flat_map snap_claims w.snapshots.rows
+  rest_claims = behind_maps w
 
   abbrev SitRows : ItemSort → Type 0
   SitRows sort = AllOf
@@ -92,16 +100,25 @@ module _ {O : Type 0} (w : World O) (c : ChainsSeen) (seated : AreSeated (claims
       (all_left (SitsIn c) arc_claims rest_claims
       (all_right (SitsIn c) node_claims (arc_claims ++ rest_claims) seated.there.1.1.1.1))
 
+behind_claims : {O : Type 0} (P : Claim → Type 0) (w : World O) → AllOf P (claims_of w)
+    → AllOf P (behind_maps w)
+behind_claims P w all =
+    all_right P (map (map_claim sorts.Arc) w.arcs.maps.rows) (behind_maps w)
+    (all_right P (map (map_claim sorts.Node) w.nodes.maps.rows)
+    (map (map_claim sorts.Arc) w.arcs.maps.rows ++ behind_maps w) all.1.1.1.1)
+
+-- the seats of kept views
+pub view_seats : {O : Type 0} (P : Claim → Type 0) (w : World O) → AllOf P (claims_of w)
+    → AllOf P (flat_map view_claims w.views.rows)
+view_seats P w all =
+    all_left P (flat_map view_claims w.views.rows) (last_of w) (behind_claims P w all)
+
 -- the halves of snapshots are claimed last
 pub last_claims : {O : Type 0} (P : Claim → Type 0) (w : World O) → AllOf P (claims_of w)
     → AllOf P (flat_map snap_claims w.snapshots.rows)
 last_claims P w all =
     all_right P (map guard_claim w.guards.rows) (flat_map snap_claims w.snapshots.rows)
-    (all_right P (map (map_claim sorts.Arc) w.arcs.maps.rows)
-    (map guard_claim w.guards.rows ++ flat_map snap_claims w.snapshots.rows)
-    (all_right P (map (map_claim sorts.Node) w.nodes.maps.rows)
-    (map (map_claim sorts.Arc) w.arcs.maps.rows
-    ++ (map guard_claim w.guards.rows ++ flat_map snap_claims w.snapshots.rows)) all.1.1.1.1))
+    (all_right P (flat_map view_claims w.views.rows) (last_of w) (behind_claims P w all))
 
 -- a role that is there is played by what is seen
 pub plays_seen : (role : claims.Role) (o : Option Seen) (s : Seen) → o ≡ Some s → Sits role o

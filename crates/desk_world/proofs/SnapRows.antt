@@ -17,12 +17,14 @@ use Rattle.alter_graph.specs.State.{AlterOf, state_of}
 use Rattle.plain_world.specs.Tables.{Named}
 use Rattle.desk_names.specs.Rows.{Rows}
 use Rattle.desk_world.specs.declared.world.World.{World}
-use Rattle.desk_world.specs.Claims.{Claim, claims_of, map_claim, guard_claim, snap_claims}
+use Rattle.desk_world.specs.Claims.{Claim, claims_of, guard_claim, snap_claims}
 use Rattle.desk_world.specs.InStep.{AreInStep, AreSeated}
 use Rattle.desk_world.specs.Looks.{Look, look_in, looked}
 use Rattle.desk_world.specs.Plain.{look_of, world_seen, labels_seen, ties_seen, snapshot_seen}
 use Rattle.desk_world.proofs.Derived.{derived_agrees}
-use Rattle.desk_world.proofs.GuardTables.{ahead, after, claims_are}
+use Rattle.desk_world.proofs.GuardTables.{ahead, after, claims_are, nodes_ahead, arcs_ahead}
+use Rattle.desk_world.proofs.GuardTables.{views_ahead}
+use Rattle.desk_world.proofs.KeptAgree.{kept_agrees}
 use Rattle.desk_world.proofs.Relabelled.{Agrees, rows_agree, guards_agree, attributes_agree}
 use Rattle.desk_world.proofs.Seated.{all_left, all_right}
 use Rattle.desk_world.proofs.SnapTables.{snaps_left}
@@ -62,12 +64,6 @@ snap_taken sort key (f ∷ front) e back used before behind =
     by sorts.Arc before = before.1.0
 
 module _ {O : Type 0} (w : World O) where
-  abbrev pub node_maps : List Claim
-  node_maps = map (map_claim sorts.Node) w.nodes.maps.rows
-
-  abbrev pub arc_maps : List Claim
-  arc_maps = map (map_claim sorts.Arc) w.arcs.maps.rows
-
   -- all other claims
   abbrev pub others : List Claim
   others = ahead w ++ map guard_claim w.guards.rows
@@ -98,9 +94,9 @@ module _ {O : Type 0} (w : World O) where
         let node_labels = ap labels_seen all.0 in
         let arc_labels = ap labels_seen all.1.1.0 in
         let nodes = rows_agree look later sorts.Node w.nodes.maps.rows
-        (all_left (Agrees look later) node_maps arc_maps all.1.1.1.1) in
+        (nodes_ahead w (Agrees look later) all) in
         let arcs = rows_agree look later sorts.Arc w.arcs.maps.rows
-        (all_right (Agrees look later) node_maps arc_maps all.1.1.1.1) in
+        (arcs_ahead w (Agrees look later) all) in
         let guards = guards_agree look later w.guards.rows
         (all_right (Agrees look later) (ahead w) (map guard_claim w.guards.rows) agree) in
         let attributes = attributes_agree (ties_seen look w) (ties_seen later with_snaps)
@@ -135,12 +131,11 @@ module _ {O : Type 0} (watch : O → Watched) (w : World O) (rows : Rows SnapKey
         seated = subst (λ list. AreSeated list (chains_seen watch a.chains))
             (sym (claims_now w rows a)) seated;
         boxes = in_step.boxes;
-        bare = record {
-          views = in_step.bare.views;
-        };
         snaps = names;
         derived = derived_agrees look later w.nodes w.arcs w.attributes.rows all.1.0 all.1.1.1.0
-            (all_left (Agrees look later) (node_maps w) (arc_maps w) all.1.1.1.1)
-            (all_right (Agrees look later) (node_maps w) (arc_maps w) all.1.1.1.1)
+            (nodes_ahead w (Agrees look later) all) (arcs_ahead w (Agrees look later) all)
             in_step.derived;
+        kept = kept_agrees look later w.nodes w.arcs w.views.rows
+            (views_ahead w (Agrees look later) all) (nodes_ahead w (Agrees look later) all)
+            (arcs_ahead w (Agrees look later) all) in_step.kept;
       }

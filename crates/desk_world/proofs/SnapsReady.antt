@@ -49,11 +49,9 @@ module _ {O : Type 0} (watch : O → Watched) (w : World O) (in_step : IsInStep 
           (claims_before w ∙ ap (λ table. others w ++ flat_map snap_claims table) (sym same)
           ∙ sym (claims_now w rows w.graph)) in_step.seats.seated;
       boxes = in_step.seats.boxes;
-      bare = record {
-        views = in_step.seats.bare.views;
-      };
       snaps = in_step.seats.snaps ∙ sym (ap (map (λ (e : Named SnapKeys). e.value)) same);
       derived = in_step.seats.derived;
+      kept = in_step.seats.kept;
     }
 
     pub ready_in_step : IsInStep watch ready

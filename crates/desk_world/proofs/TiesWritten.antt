@@ -18,8 +18,9 @@ use Rattle.desk_world.specs.declared.tables.AttributeRow.{AttributeRow}
 use Rattle.desk_world.specs.declared.world.World.{World}
 use Rattle.desk_world.specs.Claims as claims
 use Rattle.desk_world.specs.Claims.{Claim, Role, Plays, claims_of, own_claims, map_claim}
-use Rattle.desk_world.specs.Claims.{guard_claim, snap_claims}
+use Rattle.desk_world.specs.Claims.{guard_claim, snap_claims, view_claims}
 use Rattle.desk_world.specs.Derived.{AreDerived, AreNumbered, AreOfRows, ties_at}
+use Rattle.desk_world.specs.KeptViews.{AreKept}
 use Rattle.desk_world.specs.InStep.{AreInStep, AreSeated}
 use Rattle.desk_world.specs.Looks.{Look, look_in, looked}
 use Rattle.desk_world.specs.Plain.{plain_of, look_of, tables_of, labels_seen, world_seen, kinds_of}
@@ -27,6 +28,7 @@ use Rattle.desk_world.specs.Plain.{attribute_seen, ties_seen}
 use Rattle.desk_world.proofs.Claimed.{apart_all}
 use Rattle.desk_world.proofs.Derived.{indexes_agree}
 use Rattle.desk_world.proofs.Following.{same_sort}
+use Rattle.desk_world.proofs.KeptAgree.{kept_agrees}
 use Rattle.desk_world.proofs.Relabelled.{Agrees, rows_agree, guards_agree, snapshots_agree}
 use Rattle.desk_world.proofs.Seated.{all_left, all_right, all_so}
 use Rattle.desk_world.proofs.SnapTables.{snaps_stay}
@@ -48,8 +50,11 @@ module _ {O : Type 0} (w : World O) where
   abbrev guard_claims : List Claim
   guard_claims = map guard_claim w.guards.rows
 
+  abbrev last_claims : List Claim
+  last_claims = guard_claims ++ flat_map snap_claims w.snapshots.rows
+
   abbrev other_claims : List Claim
-  other_claims = guard_claims ++ flat_map snap_claims w.snapshots.rows
+  other_claims = flat_map view_claims w.views.rows ++ last_claims
 
   abbrev map_claims : ItemSort → List Claim
   map_claims sort = map (map_claim sort) (tables_of w sort).maps.rows
@@ -70,18 +75,26 @@ module _ {O : Type 0} (w : World O) where
       all_left P (map_claims sorts.Arc) other_claims
       (all_right P (map_claims sorts.Node) (map_claims sorts.Arc ++ other_claims) all)
 
+  others_hold : (P : Claim → Type 0) → AllOf P table_claims → AllOf P other_claims
+  others_hold P all =
+      all_right P (map_claims sorts.Arc) other_claims
+      (all_right P (map_claims sorts.Node) (map_claims sorts.Arc ++ other_claims) all)
+
+  views_hold : (P : Claim → Type 0) → AllOf P table_claims
+      → AllOf P (flat_map view_claims w.views.rows)
+  views_hold P all =
+      all_left P (flat_map view_claims w.views.rows) last_claims (others_hold P all)
+
   guards_hold : (P : Claim → Type 0) → AllOf P table_claims → AllOf P guard_claims
   guards_hold P all =
       all_left P guard_claims (flat_map snap_claims w.snapshots.rows)
-      (all_right P (map_claims sorts.Arc) other_claims
-      (all_right P (map_claims sorts.Node) (map_claims sorts.Arc ++ other_claims) all))
+      (all_right P (flat_map view_claims w.views.rows) last_claims (others_hold P all))
 
   halves_hold : (P : Claim → Type 0) → AllOf P table_claims
       → AllOf P (flat_map snap_claims w.snapshots.rows)
   halves_hold P all =
       all_right P guard_claims (flat_map snap_claims w.snapshots.rows)
-      (all_right P (map_claims sorts.Arc) other_claims
-      (all_right P (map_claims sorts.Node) (map_claims sorts.Arc ++ other_claims) all))
+      (all_right P (flat_map view_claims w.views.rows) last_claims (others_hold P all))
 
   nodes_apart : (P : Claim → Type 0)
       → AllOf P (labels_claim sorts.Node ∷ own_claims sorts.Arc w.arcs ++ table_claims)
@@ -237,12 +250,14 @@ module _ {O : Type 0} (watch : O → Watched) (w : World O) (sort : ItemSort) (o
           (seats_stay sort t (watch old).seen c seen (claims_of w) same_role
           (ap (λ s. claims.is_map s.kind) wrote) in_step.seated);
       boxes = in_step.boxes;
-      bare = record {
-        views = in_step.bare.views;
-      };
       snaps = ap (λ x. x.snaps) writes.seats
           ∙ snaps_stay sort (with_seats (put_seat t (seats_in sort c))) c ∙ in_step.snaps;
       derived = subst (λ l. AreDerived l w.nodes w.arcs attributes.rows) (sym looks) derived;
+      kept = subst (λ l. AreKept l w.nodes w.arcs w.views.rows) (sym looks)
+          (kept_agrees look then w.nodes w.arcs w.views.rows
+          (views_hold w (Agrees look then) agree.tables)
+          (maps_hold w (Agrees look then) agree.tables sorts.Node)
+          (maps_hold w (Agrees look then) agree.tables sorts.Arc) in_step.kept);
     }
 
   -- ---- the plain world

@@ -11,6 +11,7 @@ use Rattle.alter_graph.specs.State.{IsSame, AlterOf, state_of}
 use Rattle.desk_world.specs.declared.world.World.{World}
 use Rattle.desk_world.specs.Claims.{Claim, Sits, claims_of, is_claimed}
 use Rattle.desk_world.specs.Derived.{AreDerived}
+use Rattle.desk_world.specs.KeptViews.{AreKept}
 use Rattle.desk_world.specs.InStep.{AreSeated, AreInStep, Differ, keys_in, guards_seated}
 use Rattle.desk_world.specs.Looks.{Look, look_in}
 use Rattle.desk_world.specs.Plain.{plain_of, world_seen, kinds_of}
@@ -70,12 +71,11 @@ module _ {O : Type 0} (watch : O → Watched) (w : World O) (a : AlterOf O)
         (keys_still c d same.chains) (guards_still c d same.chains) (left_still c d same.chains)
         in_step.seated;
     boxes = in_step.boxes;
-    bare = record {
-      views = in_step.bare.views;
-    };
     snaps = same.chains.snaps ∙ in_step.snaps;
     derived = subst (λ look. AreDerived look w.nodes w.arcs w.attributes.rows)
         (sym (look_still c d same.chains)) in_step.derived;
+    kept = subst (λ look. AreKept look w.nodes w.arcs w.views.rows)
+        (sym (look_still c d same.chains)) in_step.kept;
   }
 
   pub plain_still : plain_of watch (record w { graph = a }) ≡ plain_of watch w

@@ -29,7 +29,7 @@ use Rattle.plain_world.specs.World as plain
 use Rattle.plain_world.specs.Refusals.{refuses}
 use Rattle.desk_world.specs.declared.tables.GuardRow.{GuardRow}
 use Rattle.desk_world.specs.declared.world.World.{World}
-use Rattle.desk_world.specs.Claims.{Claim, guard_claim, map_claim, snap_claims}
+use Rattle.desk_world.specs.Claims.{Claim, guard_claim, map_claim, snap_claims, view_claims}
 use Rattle.desk_world.specs.InStep.{AreInStep}
 use Rattle.desk_world.specs.Looks.{look_in}
 use Rattle.desk_world.specs.Plain.{plain_of}
@@ -75,10 +75,12 @@ module _ {O : Type 0} (watch : O → Watched) (w : World O) (in_step : AreInStep
       let halves = flat_map snap_claims w.snapshots.rows in
       let arc_maps = map (map_claim sorts.Arc) w.arcs.maps.rows in
       let node_maps = map (map_claim sorts.Node) w.nodes.maps.rows in
+      let views = flat_map view_claims w.views.rows in
       of_claims rows (all_left (SitsIn c) own halves
-      (all_right (SitsIn c) arc_maps (own ++ halves)
-      (all_right (SitsIn c) node_maps (arc_maps ++ (own ++ halves))
-      in_step.seated.there.1.1.1.1)))
+      (all_right (SitsIn c) views (own ++ halves)
+      (all_right (SitsIn c) arc_maps (views ++ (own ++ halves))
+      (all_right (SitsIn c) node_maps (arc_maps ++ (views ++ (own ++ halves)))
+      in_step.seated.there.1.1.1.1))))
 
   seats_alike : (sort : ItemSort) (g : Digraph)
       → option_map seat_of_guard (find (λ guard. breaks guard sort g) (guards_of c))

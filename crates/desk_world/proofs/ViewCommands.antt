@@ -31,9 +31,11 @@ use Rattle.plain_world.proofs.DemandsMet.{demands_met, layer_met}
 use Rattle.desk_world.specs.declared.tables.ViewRow.{ViewRow}
 use Rattle.desk_world.specs.declared.world.World.{World}
 use Rattle.desk_world.specs.Faults.{Is}
+use Rattle.desk_world.specs.KeptViews.{NoneStand}
 use Rattle.desk_world.specs.Plain.{plain_of, view_of}
 use Rattle.desk_world.specs.Shown.{with_view}
 use Rattle.desk_world.proofs.Demanded.{fault_of, refused, not_met, met}
+use Rattle.desk_world.proofs.KeptTowers.{new_alone}
 use Rattle.desk_world.proofs.MapCommands.{left}
 use Rattle.desk_world.proofs.ViewRows.{there_as, oldest_as}
 
@@ -118,12 +120,18 @@ module _ (world : plain.World) (name : Name) (layer : LayerWord) (below : Name) 
             → Step world asked (Answered Quiet) later
         view_answered later is = ((λ i. option_or (all_met i) None), (refl, is))
 
-        -- the name is new to the table
-        pub view_is_new : has_entry world.views name ≡ false
-        view_is_new =
-            (or_parts (is_base name) (has_entry world.views name)
+        new_parts : (is_base name ≡ false) × (has_entry world.views name ≡ false)
+        new_parts =
+            or_parts (is_base name) (has_entry world.views name)
             (layer_met world name below layer
-            (demands_met world asked (λ i. option_or (all_met i) None))).1).1
+            (demands_met world asked (λ i. option_or (all_met i) None))).1
+
+        -- the name is new to the table, and no view stands on it
+        pub view_is_new : has_entry world.views name ≡ false
+        view_is_new = new_parts.1
+
+        pub view_is_alone : IsWorld world → NoneStand world.views name
+        view_is_alone ok = new_alone world name ok new_parts.0 new_parts.1
 
 -- ---- a view that goes
 

@@ -1,17 +1,24 @@
 -- The views of a world by the rows of their table.
-use Rattle.std.proofs.Common.{◌≡◌, Bool, true, false, cond, not, List, [], ◌∷◌, map, refl, ap, ◌∙◌}
+use Rattle.std.proofs.Common.{◌≡◌, Bool, true, false, cond, not, List, [], ◌∷◌, ◌++◌, map}
+use Rattle.std.proofs.Common.{refl, sym, ap, subst, ◌∙◌}
 use Rattle.std.proofs.Common.{Option, Some, None, is_some}
 use Rattle.std.specs.Prelude.{option_map, find}
-use Rattle.plain_digraph.specs.Lists.{AllOf}
+use Rattle.std.specs.List.{flat_map}
+use Rattle.std.specs.Option.{option_map_or}
+use Rattle.base_items.specs.declared.items.ItemSort.TheVariants as sorts
 use Rattle.observe_core.specs.Seen.{Watched}
+use Rattle.alter_graph.specs.Chains.{chains_seen}
 use Rattle.plain_world.specs.Tables.{Name, Named, under, is_named, entry, has_entry, with_entry}
 use Rattle.plain_world.specs.Tables.{without_entry, oldest}
 use Rattle.plain_world.specs.World as plain
 use Rattle.desk_names.specs.Rows.{Rows}
 use Rattle.desk_world.specs.declared.tables.ViewRow.{ViewRow}
 use Rattle.desk_world.specs.declared.world.World.{World}
-use Rattle.desk_world.specs.InStep.{AreInStep}
-use Rattle.desk_world.specs.Plain.{plain_of, view_of}
+use Rattle.desk_world.specs.Claims.{Claim, own_claims, map_claim, guard_claim, snap_claims}
+use Rattle.desk_world.specs.Claims.{view_claims, kept_claims}
+use Rattle.desk_world.specs.InStep.{AreInStep, AreSeated}
+use Rattle.desk_world.specs.KeptViews.{AreKept}
+use Rattle.desk_world.specs.Plain.{plain_of, look_of, view_of}
 
 -- ---- tables
 
@@ -77,39 +84,38 @@ module _ {X Y : Type 0} (f : X → Y) where
 
 -- ---- the world with other views
 
-abbrev pub IsUnkept : Named ViewRow → Type 0
-IsUnkept e = e.value.kept ≡ None
-
-pub unkept_with : (table : List (Named ViewRow)) (name : Name) (row : ViewRow)
-    → AllOf IsUnkept table → row.kept ≡ None → AllOf IsUnkept (with_entry table name row)
-unkept_with [] name row all own = (own, tt)
-unkept_with (e ∷ es) name row all own = (all.0, unkept_with es name row all.1 own)
-
-pub unkept_without : (table : List (Named ViewRow)) (name : Name) → AllOf IsUnkept table
-    → AllOf IsUnkept (without_entry table name)
-unkept_without [] name all = tt
-unkept_without (e ∷ es) name all =
-    let rest = unkept_without es name all.1 in
-    let own = all.0 in
-    elim (is_named name e) as (λ b.
-    AllOf IsUnkept (cond (not b) (e ∷ without_entry es name) (without_entry es name))) [
-      | true ↦ rest
-      | false ↦ (own, rest)
-    ]
-
 abbrev pub with_views : {O : Type 0} → World O → Rows ViewRow → World O
 with_views w views = record w { views = views }
 
+-- the claims of a world, those of its kept views being these
+abbrev pub claims_by : {O : Type 0} → World O → List Claim → List Claim
+claims_by w seats =
+    own_claims sorts.Node w.nodes
+    ++ (own_claims sorts.Arc w.arcs
+    ++ (map (map_claim sorts.Node) w.nodes.maps.rows
+    ++ (map (map_claim sorts.Arc) w.arcs.maps.rows
+    ++ (seats ++ (map guard_claim w.guards.rows ++ flat_map snap_claims w.snapshots.rows)))))
+
+-- a view that isn't kept claims no seat
+pub seats_with : (table : List (Named ViewRow)) (name : Name) (row : ViewRow) → row.kept ≡ None
+    → flat_map view_claims (with_entry table name row) ≡ flat_map view_claims table
+seats_with [] name row unkept = ap (λ kept. option_map_or kept_claims kept [] ++ []) unkept
+seats_with (e ∷ es) name row unkept =
+    ap (λ list. view_claims e ++ list) (seats_with es name row unkept)
+
 module _ {O : Type 0} (watch : O → Watched) (w : World O) where
-  pub views_in_step : AreInStep watch w → (views : Rows ViewRow) → AllOf IsUnkept views.rows
-      → AreInStep watch (with_views w views)
-  views_in_step in_step views unkept = record {
+  -- with other rows that claim the same seats
+  pub views_in_step : AreInStep watch w → (views : Rows ViewRow)
+      → flat_map view_claims views.rows ≡ flat_map view_claims w.views.rows
+      → AreKept (look_of watch w) w.nodes w.arcs views.rows → AreInStep watch (with_views w views)
+  views_in_step in_step views same kept = record {
     graph = in_step.graph;
-    seated = in_step.seated;
+    seated = subst (λ list. AreSeated (claims_by w list) (chains_seen watch w.graph.chains))
+        (sym same) in_step.seated;
     boxes = in_step.boxes;
-    bare = record { views = unkept };
     snaps = in_step.snaps;
     derived = in_step.derived;
+    kept = kept;
   }
 
   -- the plain world has the views of the rows

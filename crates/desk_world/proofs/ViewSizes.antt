@@ -4,15 +4,17 @@ use Rattle.std.proofs.Common.{refl, sym, ap, subst, ◌∙◌, arith}
 use Rattle.std.specs.Prelude.{nat_le}
 use Rattle.std.specs.Option.{option_or}
 use Rattle.std.proofs.lemmas.Bool.{le-leb, lt-leb}
+use Rattle.std.proofs.lemmas.List.{length-map}
 use Rattle.base_items.specs.declared.limits.Limit.TheVariants as limits
 use Rattle.base_items.specs.declared.limits.TheConstants.{MAX_NODES, MAX_ARCS}
 use Rattle.base_items.specs.declared.items.ItemSort.TheVariants.{Node, Arc}
 use Rattle.report_text.specs.declared.faults.Fault.TheVariants.{Full}
-use Rattle.plain_views.specs.Shown.{Shown, IsShown}
+use Rattle.plain_views.specs.Shown.{Shown, IsShown, arcs_in_order}
 use Rattle.plain_world.specs.Refusals.{unless}
 use Rattle.view_numbers.specs.declared.fault.NumberFault.{NumberFault}
 use Rattle.view_numbers.specs.declared.fault.NumberFault.TheVariants as faults
-use Rattle.view_numbers.specs.Listed.{facts_of, IsFullOfNodes, IsFullOfArcs}
+use Rattle.view_numbers.specs.Listed.{facts_of, fact_shown, IsFullOfNodes, IsFullOfArcs, IsFull}
+use Rattle.view_numbers.specs.Listed.{Fits}
 use Rattle.desk_world.specs.Faults.{Is}
 use Rattle.desk_world.specs.Shown.{fault_of_size, told_as}
 use Rattle.desk_world.proofs.InOrder.{in_order, facts_in_order}
@@ -35,7 +37,8 @@ module _ (p : Shown) (shown : IsShown p) where
       (le-leb (length p.by_source) MAX_ARCS
       (subst (λ n. n ≤ 4194304) (facts_in_order p shown) arcs))
 
-  pub nodes_full : (fault : NumberFault) → IsFullOfNodes p fault → Is (fault_of_size p) (told_as fault)
+  pub nodes_full : (fault : NumberFault) → IsFullOfNodes p fault
+      → Is (fault_of_size p) (told_as fault)
   nodes_full (faults.Full limits.Nodes) more =
       ap (λ b. option_or (unless b (Full Node MAX_NODES))
       (unless (nat_le (length p.by_source) MAX_ARCS) (Full Arc MAX_ARCS)))
@@ -53,3 +56,16 @@ module _ (p : Shown) (shown : IsShown p) where
   arcs_full (faults.Full limits.Nodes) few more = elim more [ ]
   arcs_full (faults.Full limits.Stamps) few more = elim more [ ]
   arcs_full faults.Memory few more = tt
+
+  -- nodes and arcs in order, and the fault of a view that isn't numbered
+  pub numbered_small : Fits p → fault_of_size p ≡ None
+  numbered_small fits =
+      small_enough fits.nodes
+      (subst (λ n. n ≤ 4194304) (sym (length-map (arcs_in_order p) fact_shown)) fits.arcs)
+
+  pub numbered_full : (fault : NumberFault) → IsFull p fault → Is (fault_of_size p) (told_as fault)
+  numbered_full (faults.Full limits.Nodes) more = nodes_full (faults.Full limits.Nodes) more
+  numbered_full (faults.Full limits.Arcs) more =
+      arcs_full (faults.Full limits.Arcs) more.0 more.1
+  numbered_full (faults.Full limits.Stamps) more = elim more [ ]
+  numbered_full faults.Memory more = tt

@@ -28,13 +28,14 @@ use Rattle.desk_world.specs.Claims.{Sits}
 use Rattle.desk_world.specs.Indexes.{is_index_kind, trues_with}
 use Rattle.desk_world.specs.InStep.{AreInStep}
 use Rattle.desk_world.specs.Looks.{look_in}
+use Rattle.desk_world.specs.Placing.{AreUnplaced}
 use Rattle.desk_world.specs.Plain.{plain_of, look_of, tables_of}
 use Rattle.desk_world.specs.Seating.{Puts}
 use Rattle.desk_world.specs.Values.{HasType, kind_for, type_for, put_at, held_with}
 use Rattle.desk_world.proofs.IndexesWritten.{IsWriting, writing_begins, writing_ends}
 use Rattle.desk_world.proofs.IndexesWritten.{writing_passes, writing_steps, index_sits}
-use Rattle.desk_world.proofs.IndexesWritten.{written_in_step, written_plain}
-use Rattle.desk_world.proofs.MapWrites.{seat_sits, all_kept, all_ahead, value_in_step}
+use Rattle.desk_world.proofs.IndexesWritten.{written_unplaced, written_plain}
+use Rattle.desk_world.proofs.MapWrites.{seat_sits, all_kept, all_ahead, value_unplaced}
 use Rattle.desk_world.proofs.MapWrites.{value_written}
 use Rattle.desk_world.proofs.MapsWritten.{own_role}
 
@@ -109,10 +110,10 @@ module _ {O : Type 0} (watch : O → Watched) (old : World O) (sort : ItemSort) 
 
       -- all rows were passed
       module _ (all : length rows ≤ place) where
-        pub walked_in_step : AreInStep watch w
-        walked_in_step =
-            subst (AreInStep watch) (sym walked.others)
-            (written_in_step watch old in_step sort name own found (values.Bool value) id w.graph
+        pub walked_unplaced : AreUnplaced watch sort id w
+        walked_unplaced =
+            subst (AreUnplaced watch sort id) (sym walked.others)
+            (written_unplaced watch old in_step sort name own found (values.Bool value) id w.graph
             walked.writing.kept
             (writing_ends watch old in_step sort name own found (values.Bool value) id place w.graph
             walked.writing all))
@@ -207,9 +208,9 @@ module _ {O : Type 0} (watch : O → Watched) (old : World O) (sort : ItemSort) 
       (chains_seen watch a.chains))
       (same : a.graph ≡ old.graph.graph) (then : states.IsInStep (state_of watch a))
       (apart : kind_for (type_for value) ≡ maps.Bools → ⊥) where
-    pub value_now_in_step : AreInStep watch (record old { graph = a })
-    value_now_in_step =
-        value_in_step watch old in_step sort name value typed keyed keyed_found id live a differ
+    pub value_now_unplaced : AreUnplaced watch sort id (record old { graph = a })
+    value_now_unplaced =
+        value_unplaced watch old in_step sort name value typed keyed keyed_found id live a differ
         puts same then apart
 
     pub value_now_written : plain_of watch (record old { graph = a })

@@ -27,9 +27,10 @@ use Rattle.desk_seats.specs.Contents.{labels_in, among, labels_among, holding, S
 use Rattle.desk_world.specs.declared.world.World.{World}
 use Rattle.desk_world.specs.Claims as claims
 use Rattle.desk_world.specs.Claims.{Claim, Role, Plays, claims_of, map_claim, guard_claim}
-use Rattle.desk_world.specs.Claims.{snap_claims}
+use Rattle.desk_world.specs.Claims.{snap_claims, view_claims}
 use Rattle.desk_world.specs.Columns.{labelled}
 use Rattle.desk_world.specs.Derived.{AreDerived}
+use Rattle.desk_world.specs.KeptViews.{AreKept}
 use Rattle.desk_world.specs.InStep.{AreInStep, AreSeated}
 use Rattle.desk_world.specs.Looks.{Look, look_in}
 use Rattle.desk_world.specs.Plain.{plain_of, look_of, tables_of, labels_seen, world_seen, kinds_of}
@@ -37,7 +38,9 @@ use Rattle.desk_world.proofs.Columns.{labels_swapped}
 use Rattle.desk_world.proofs.Derived.{derived_agrees}
 use Rattle.desk_world.proofs.Labelled.{HasLabels}
 use Rattle.desk_world.proofs.Relabelled.{one_label, maps_elsewhere, labels_elsewhere, Agrees}
+use Rattle.desk_world.proofs.KeptAgree.{kept_agrees}
 use Rattle.desk_world.proofs.Relabelled.{guards_elsewhere, ties_elsewhere, halves_elsewhere}
+use Rattle.desk_world.proofs.Relabelled.{views_elsewhere}
 use Rattle.desk_world.proofs.Seated.{all_so}
 use Rattle.desk_world.proofs.SnapTables.{snaps_stay}
 use Rattle.desk_world.specs.Entries.{labels_at}
@@ -131,15 +134,18 @@ module _ {O : Type 0} (watch : O → Watched) (w : World O) (sort : ItemSort) (o
         (claims_of w)
         same_role (ap (λ s. claims.is_map s.kind) wrote) in_step.seated);
     boxes = in_step.boxes;
-    bare = record {
-      views = in_step.bare.views;
-    };
     snaps = ap (λ x. x.snaps) (chains_now sort) ∙ snaps_stay sort
         (with_seats (put_seat t (seats_in sort c))) c ∙ in_step.snaps;
     derived = subst (λ look. AreDerived look w.nodes w.arcs w.attributes.rows) (sym looks)
         (derived_agrees (look_of watch w) (look_in (reseated sort t c)) w.nodes w.arcs
         w.attributes.rows (ties_agree sorts.Node) (ties_agree sorts.Arc) (maps_agree sorts.Node)
         (maps_agree sorts.Arc) in_step.derived);
+    kept = subst (λ look. AreKept look w.nodes w.arcs w.views.rows) (sym looks)
+        (kept_agrees (look_of watch w) (look_in (reseated sort t c)) w.nodes w.arcs w.views.rows
+        (all_so (IsElsewhere sort key) (Agrees (look_of watch w) (look_in (reseated sort t c)))
+        agree (flat_map view_claims w.views.rows)
+        (views_elsewhere w in_step.seated.claims_differ sort))
+        (maps_agree sorts.Node) (maps_agree sorts.Arc) in_step.kept);
   }
 
   -- an item got a label

@@ -1,11 +1,13 @@
 -- The seats that the tables of a world claim.
 use Rattle.std.specs.Prelude.{◌≡◌, ℕ, Bool, true, false, ◌&&◌, ◌==◌, List, [], ◌∷◌, ◌++◌, map}
-use Rattle.std.specs.Prelude.{Option, None, Some}
+use Rattle.std.specs.Prelude.{Option, None, Some, not, is_some}
 use Rattle.std.specs.List.{list_any, flat_map}
+use Rattle.std.specs.Option.{option_map_or}
 use Rattle.base_items.specs.declared.items.ItemSort.{ItemSort}
 use Rattle.base_items.specs.declared.items.ItemSort.TheVariants as sorts
 use Rattle.script_words.specs.declared.commands.Direction.{Direction}
 use Rattle.script_words.specs.declared.commands.Direction.TheVariants as ways
+use Rattle.observe_core.specs.declared.kinds.KeptShape.{KeptShape}
 use Rattle.observe_core.specs.declared.kinds.Kind.{Kind}
 use Rattle.observe_core.specs.declared.kinds.Kind.TheVariants as kinds
 use Rattle.observe_core.specs.Held as held
@@ -20,6 +22,8 @@ use Rattle.desk_world.specs.declared.tables.MapKind.TheVariants as maps
 use Rattle.desk_world.specs.declared.tables.MapRow.{MapRow}
 use Rattle.desk_world.specs.declared.tables.ItemTables.{ItemTables}
 use Rattle.desk_world.specs.declared.tables.GuardRow.{GuardRow}
+use Rattle.desk_world.specs.declared.tables.KeptKeys.{KeptKeys}
+use Rattle.desk_world.specs.declared.tables.ViewRow.{ViewRow}
 use Rattle.desk_world.specs.declared.world.World.{World}
 use Rattle.desk_world.specs.Plain.{seat_sort}
 
@@ -32,6 +36,8 @@ pub data Role : Type 0 where
   Degrees : (out : Bool) → Role
   Trues : Role
   Half : Role
+  KeptNodes : (all : Bool) → Role
+  KeptArcs : (shape : KeptShape) (all : Bool) → Role
   Ties : Role
   Guard : Role
 
@@ -55,6 +61,8 @@ form_of Labels = forms.labels_form
 form_of (Degrees out) = forms.degrees_form
 form_of Trues = forms.trues_form
 form_of Half = forms.half_form
+form_of (KeptNodes all) = forms.nodes_form
+form_of (KeptArcs shape all) = forms.arcs_form
 form_of Ties = forms.ties_form
 form_of Guard = forms.boxed_form
 
@@ -67,6 +75,8 @@ made_for Labels = held.OfValues held.Labels
 made_for (Degrees out) = held.OfDegree out
 made_for Trues = held.OfValues held.Trues
 made_for Half = held.OfHalf
+made_for (KeptNodes all) = held.OfKept held.KeptNodes all
+made_for (KeptArcs shape all) = held.OfKept (held.KeptArcs shape) all
 made_for Ties = held.OfTies
 made_for Guard = held.OfGuard
 
@@ -121,6 +131,17 @@ guard_claim e = claim e.value.sort e.value.key.0 Guard
 abbrev pub snap_claims : Named SnapKeys → List Claim
 snap_claims e = claim sorts.Node e.value.nodes.0 Half ∷ claim sorts.Arc e.value.arcs.0 Half ∷ []
 
+-- the seats of a kept view; where it has no filter of a sort, all items of the sort are shown
+abbrev pub kept_claims : KeptKeys → List Claim
+kept_claims keys =
+    claim sorts.Node keys.nodes.0 (KeptNodes (not (is_some keys.maps.node_filter)))
+    ∷ claim sorts.Arc keys.arcs.0
+    (KeptArcs keys.maps.shape (not (is_some keys.maps.arc_filter)))
+    ∷ []
+
+abbrev pub view_claims : Named ViewRow → List Claim
+view_claims e = option_map_or kept_claims e.value.kept []
+
 -- the seats that the tables of a world speak of
 abbrev pub claims_of : {O : Type 0} → World O → List Claim
 claims_of w =
@@ -128,7 +149,8 @@ claims_of w =
     ++ (own_claims sorts.Arc w.arcs
     ++ (map (map_claim sorts.Node) w.nodes.maps.rows
     ++ (map (map_claim sorts.Arc) w.arcs.maps.rows
-    ++ (map guard_claim w.guards.rows ++ flat_map snap_claims w.snapshots.rows))))
+    ++ (flat_map view_claims w.views.rows
+    ++ (map guard_claim w.guards.rows ++ flat_map snap_claims w.snapshots.rows)))))
 
 -- whether one of the claims is of this seat
 abbrev pub is_claimed : List Claim → ItemSort → ℕ → Bool

@@ -1,6 +1,6 @@
 -- That the seats of a world are in step with its digraph and its tables.
 use Rattle.std.specs.Prelude.{◌≡◌, ℕ, ◌+◌, ◌^◌, ◌≤◌, Bool, true, false, ◌&&◌, not, List, []}
-use Rattle.std.specs.Prelude.{◌∷◌, map, filter, None}
+use Rattle.std.specs.Prelude.{◌∷◌, map, filter}
 use Rattle.base_items.specs.declared.items.ItemSort.{ItemSort}
 use Rattle.base_items.specs.declared.limits.TheConstants.{MAX_STAMP}
 use Rattle.plain_digraph.specs.Lists.{AllOf, has}
@@ -20,6 +20,7 @@ use Rattle.desk_world.specs.Plain.{plain_of, look_of}
 use Rattle.desk_world.specs.Claims.{Claim, Guard, Plays, Sits, claims_of, is_claimed, is_map}
 use Rattle.desk_world.specs.Claims.{ClaimsDiffer, has_map_kind}
 use Rattle.desk_world.specs.Derived.{AreDerived}
+use Rattle.desk_world.specs.KeptViews.{AreKept}
 
 -- the keys of the seats of a chain, oldest first
 abbrev pub keys_in : ItemSort → ChainsSeen → List ℕ
@@ -73,25 +74,21 @@ has_values maps.Texts = true
 has_values (maps.Degrees way) = false
 has_values (maps.Trues map) = false
 
--- no command that is run yet keeps a view
-pub record IsBare {O : Type 0} (w : World O) : Type 0 where
-  pub views : AllOf (λ e. e.value.kept ≡ None) w.views.rows
-
 module _ {O : Type 0} (watch : O → Watched) where
   -- each box of the pool is a guard that tracks nothing
   abbrev pub AreBoxes : List O → Type 0
   AreBoxes boxes = AllOf (λ o. IsBox (watch o).seen) boxes
 
   -- the observers are in step with the digraph, the seats are exactly those that the tables speak
-  -- of, each with its role, the boxes of the pool track nothing, and indexes and ties are those of
-  -- the maps and the attributes
+  -- of, each with its role, the boxes of the pool track nothing, indexes and ties are those of the
+  -- maps and the attributes, and kept views are placed by the present values
   pub record AreInStep (w : World O) : Type 0 where
     pub graph : graph.IsInStep (state_of watch w.graph)
     pub seated : AreSeated (claims_of w) (chains_seen watch w.graph.chains)
     pub boxes : AreBoxes w.pool.items
-    pub bare : IsBare w
     pub snaps : (chains_seen watch w.graph.chains).snaps ≡ map (λ e. e.value) w.snapshots.rows
     pub derived : AreDerived (look_of watch w) w.nodes w.arcs w.attributes.rows
+    pub kept : AreKept (look_of watch w) w.nodes w.arcs w.views.rows
 
   -- besides, the plain world is valid
   pub record IsInStep (w : World O) : Type 0 where

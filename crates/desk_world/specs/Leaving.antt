@@ -7,8 +7,9 @@ use Rattle.alter_graph.specs.State as graph
 use Rattle.alter_graph.specs.State.{state_of}
 use Rattle.desk_world.specs.declared.world.World.{World}
 use Rattle.desk_world.specs.Claims.{Claim, claims_of, has_map_kind}
-use Rattle.desk_world.specs.InStep.{AreSeated, AreBoxes, IsBare}
+use Rattle.desk_world.specs.InStep.{AreSeated, AreBoxes}
 use Rattle.desk_world.specs.Derived.{AreDerived}
+use Rattle.desk_world.specs.KeptViews.{AreKept}
 use Rattle.desk_world.specs.Looks.{look_in}
 use Rattle.desk_world.specs.Plain.{look_of}
 
@@ -34,9 +35,9 @@ module _ {O : Type 0} (watch : O → Watched) where
     pub seated : AreSeated (still_claimed (chains_seen watch w.graph.chains) (claims_of w))
         (with_none_left (chains_seen watch w.graph.chains))
     pub boxes : AreBoxes watch w.pool.items
-    pub bare : IsBare w
     pub snaps : (chains_seen watch w.graph.chains).snaps ≡ map (λ e. e.value) w.snapshots.rows
     pub derived : AreDerived (look_of watch w) w.nodes w.arcs w.attributes.rows
+    pub kept : AreKept (look_of watch w) w.nodes w.arcs w.views.rows
     -- where no key of a guard that left is to be taken, none has
     pub all_there : ((sort : ItemSort)
         → (chain_in sort (chains_seen watch w.graph.chains)).left ≡ [])

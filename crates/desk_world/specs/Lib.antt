@@ -4,6 +4,8 @@ pub mod Copies
 pub mod Plain
 pub mod Claims
 pub mod Derived
+pub mod KeptMaps
+pub mod KeptViews
 pub mod InStep
 pub mod Leaving
 pub mod Entries
@@ -21,6 +23,7 @@ pub mod MapTables
 pub mod Describing
 pub mod Vetoes
 pub mod Seating
+pub mod Placing
 pub mod Indexes
 pub mod Reads
 pub mod Attributes
@@ -29,3 +32,5 @@ pub mod Naming
 pub mod NodeWords
 pub mod Shown
 pub mod NumberLaws
+pub mod AskedViews
+pub mod AskedPaths

@@ -1,5 +1,5 @@
 -- Views that come, and what a listing of a view tells.
-use Rattle.std.specs.Prelude.{ℕ, false, List, length, Option}
+use Rattle.std.specs.Prelude.{ℕ, true, false, List, length, Option}
 use Rattle.base_items.specs.declared.items.ItemSort.TheVariants.{Node, Arc}
 use Rattle.base_items.specs.declared.limits.Limit.TheVariants as limits
 use Rattle.base_items.specs.declared.limits.TheConstants.{MAX_NODES, MAX_ARCS}
@@ -13,7 +13,7 @@ use Rattle.report_text.specs.declared.faults.StepFault.TheVariants.{Refused, Mem
 use Rattle.plain_views.specs.Shown as shown
 use Rattle.plain_views.specs.Shown.{Shown, ShownArc}
 use Rattle.plain_world.specs.Refusals.{above_limits}
-use Rattle.plain_world.specs.Tables.{Name, with_entry}
+use Rattle.plain_world.specs.Tables.{Name, with_entry, with_change}
 use Rattle.plain_world.specs.World.{World}
 use Rattle.view_numbers.specs.declared.fault.NumberFault.{NumberFault}
 use Rattle.view_numbers.specs.declared.fault.NumberFault.TheVariants as faults
@@ -22,6 +22,12 @@ use Rattle.view_numbers.specs.declared.fault.NumberFault.TheVariants as faults
 abbrev pub with_view : World → Name → LayerWord → Name → World
 with_view world name layer below = record world {
   views = with_entry world.views name (record { layer = layer; below = below; kept = false });
+}
+
+-- a view is kept
+abbrev pub with_kept : World → Name → World
+with_kept world name = record world {
+  views = with_change world.views name (λ view. record view { kept = true });
 }
 
 -- ---- views that are too large

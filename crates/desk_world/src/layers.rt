@@ -90,9 +90,9 @@ impl<B: Observer> World<Seat<B>> {
         }
     }
 
-    // The number of a map: its place in the table. A name that no map has gets the place after the
-    // last. The error is want of a number.
-    fn number(&self, sort: ItemSort, name: &Text) -> Result<u32, AllocError>
+    /// The number of a map: its place in the table. A name that no map has gets the place after the
+    /// last. The error is want of a number.
+    pub(crate) fn number(&self, sort: ItemSort, name: &Text) -> Result<u32, AllocError>
         requires { AreInStep ⟦<Seat<B> as Observer>⟧.watch self.now }
         ensures { let world = plain_of ⟦<Seat<B> as Observer>⟧.watch self.now in
             IfOk result (λ number. number ≡ number_of world sort name.now) }

@@ -5,6 +5,9 @@
 mod additions;
 mod alterations;
 mod altering;
+mod asked_paths;
+mod asked_values;
+mod asked_views;
 mod attributes;
 mod describing;
 mod documents;
@@ -12,6 +15,8 @@ mod edits;
 mod guards;
 mod indexes;
 mod items;
+mod keeping;
+mod kept_listings;
 mod labels;
 mod layers;
 mod leaving;
@@ -28,6 +33,7 @@ mod new_indexes;
 mod node_words;
 mod opening;
 mod orders;
+mod placing;
 mod pool;
 mod readers;
 mod refusals;
@@ -52,5 +58,7 @@ mod views;
 mod world;
 
 pub use steps::built;
-pub use tables::{AttributeRow, GuardRow, ItemTables, KeptKeys, MapKind, MapRow, ViewRow};
+pub use tables::{
+    AttributeRow, GuardRow, ItemTables, KeptKeys, KeptMaps, MapKind, MapRow, ViewRow,
+};
 pub use world::World;

@@ -2,6 +2,7 @@
 
 ghost use Rattle.std.specs.Prelude.{◌≡◌, ◌+◌, ◌≤◌, IfOk};
 ghost use Rattle.lgf_file.specs.Documents.{IsDoc};
+ghost use Rattle.plain_digraph.specs.Items.{count_of};
 ghost use Rattle.plain_world.specs.Documents.{load};
 ghost use Rattle.desk_world.specs.Plain.{plain_of, kinds_of};
 ghost use Rattle.desk_world.specs.InStep.{IsInStep, AreBoxes};
@@ -49,6 +50,13 @@ impl<B: Observer> World<Seat<B>> {
         world.describe_nodes(alloc, node_place, columns.as_slice(), rows)?;
         world.describe_arcs(alloc, arc_place, arc_columns.as_slice(), arcs)?;
         Ok(world)
+    }
+
+    /// How many items of the sort are live.
+    pub fn live(&self, sort: ItemSort) -> u32
+        ensures { result ≡ count_of self.now.graph.graph.graph sort }
+    {
+        self.graph.graph().count(sort)
     }
 
     /// How many stamps are left of 2^62.

@@ -16,6 +16,7 @@ ghost use Rattle.desk_world.specs.Claims.{Plays, role_of};
 ghost use Rattle.desk_world.specs.declared.tables.MapRow.{MapRow};
 ghost use Rattle.desk_world.specs.Plain.{plain_of, tables_of};
 ghost use Rattle.desk_world.specs.InStep.{AreInStep};
+ghost use Rattle.desk_world.specs.Placing.{AreUnplaced};
 ghost use Rattle.desk_world.specs.Values.{HasType, kind_for, type_for, put_at};
 
 use crate::map_tables::seat_sort;
@@ -165,8 +166,8 @@ impl<B: Observer> World<Seat<B>> {
         self.write_row(sort, name, key, id, value);
     }
 
-    // Writes the value of a live item to the map of its type whose seat has the key, and a bool to
-    // each index of that map too.
+    // Writes the value of a live item to the map of its type whose seat has the key, and places the
+    // item anew in kept views.
     fn write_row(&mut self, sort: ItemSort, map: &Text, key: SeatKey, id: u32, value: Value)
         requires in_step { AreInStep ⟦<Seat<B> as Observer>⟧.watch self.old }
         requires live { IsLive self.old.graph.graph.graph sort id }
@@ -182,6 +183,27 @@ impl<B: Observer> World<Seat<B>> {
         ensures graph { self.new.graph.graph ≡ self.old.graph.graph }
         ensures pool { self.new.pool ≡ self.old.pool }
     {
+        self.write_maps(sort, map, key, id, value);
+        self.place_anew(sort, id);
+    }
+
+    // Writes the value of a live item to the map of its type whose seat has the key, and a bool to
+    // each index of that map too. The item is still to be placed anew.
+    fn write_maps(&mut self, sort: ItemSort, map: &Text, key: SeatKey, id: u32, value: Value)
+        requires in_step { AreInStep ⟦<Seat<B> as Observer>⟧.watch self.old }
+        requires live { IsLive self.old.graph.graph.graph sort id }
+        requires of_type { HasType (plain_of ⟦<Seat<B> as Observer>⟧.watch self.old) sort map.now
+            (type_for value) }
+        requires row { (row : MapRow) × (entry (tables_of self.old sort).maps.rows map.now
+            ≡ Some row) × (row.key ≡ key) }
+        requires differ { NamesDiffer (tables_of self.old sort).maps.rows }
+        ensures written { plain_of ⟦<Seat<B> as Observer>⟧.watch self.new
+            ≡ with_map_changed (plain_of ⟦<Seat<B> as Observer>⟧.watch self.old) sort map.now
+            (put_at value id) }
+        ensures in_step { AreUnplaced ⟦<Seat<B> as Observer>⟧.watch sort id self.new }
+        ensures graph { self.new.graph.graph ≡ self.old.graph.graph }
+        ensures pool { self.new.pool ≡ self.old.pool }
+    {
         match value {
             Value::Int(value) => write_seat(&mut self.graph, sort, key, id, Value::Int(value)),
             Value::Bool(value) => self.write_bool(sort, map, key, id, value),
@@ -189,7 +211,8 @@ impl<B: Observer> World<Seat<B>> {
         }
     }
 
-    // Writes a bool of a live item to the map whose seat has the key, and to each index of it.
+    // Writes a bool of a live item to the map whose seat has the key, and to each index of it. The
+    // item is still to be placed anew.
     fn write_bool(&mut self, sort: ItemSort, map: &Text, key: SeatKey, id: u32, value: bool)
         requires in_step { AreInStep ⟦<Seat<B> as Observer>⟧.watch self.old }
         requires live { IsLive self.old.graph.graph.graph sort id }
@@ -201,7 +224,7 @@ impl<B: Observer> World<Seat<B>> {
         ensures written { plain_of ⟦<Seat<B> as Observer>⟧.watch self.new
             ≡ with_map_changed (plain_of ⟦<Seat<B> as Observer>⟧.watch self.old) sort map.now
             (put_at (Value.Bool value) id) }
-        ensures in_step { AreInStep ⟦<Seat<B> as Observer>⟧.watch self.new }
+        ensures in_step { AreUnplaced ⟦<Seat<B> as Observer>⟧.watch sort id self.new }
         ensures graph { self.new.graph.graph ≡ self.old.graph.graph }
         ensures pool { self.new.pool ≡ self.old.pool }
     {

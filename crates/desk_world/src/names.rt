@@ -68,8 +68,13 @@ impl<B: Observer> World<Seat<B>> {
         }
     }
 
-    // The name of an arc that these layers show.
-    fn arc_called(&self, alloc: Global, layers: &[Layer], arc: u32) -> Result<Text, AllocError>
+    /// The name of an arc that these layers show.
+    pub(crate) fn arc_called(
+        &self,
+        alloc: Global,
+        layers: &[Layer],
+        arc: u32,
+    ) -> Result<Text, AllocError>
         requires in_step { IsInStep ⟦<Seat<B> as Observer>⟧.watch self.now }
         requires live { IsLiveOrigin self.now.graph.graph.graph
             (marks.arc_origin (tower_of layers.now) arc) }

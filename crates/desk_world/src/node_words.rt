@@ -87,9 +87,9 @@ fn node_above(letters: &[u8], node: u32) -> Option<u32>
 }
 
 impl<B: Observer> World<Seat<B>> {
-    // The node that the layers would show under the name. None where the name is of no such form,
-    // or no node of the base has the label. The error is want of memory.
-    fn node_meant(
+    /// The node that the layers would show under the name. None where the name is of no such form,
+    /// or no node of the base has the label. The error is want of memory.
+    pub(crate) fn node_meant(
         &self,
         alloc: Global,
         layers: &[Layer],

@@ -5,6 +5,7 @@ ghost use Rattle.std.specs.Prelude.{◌≡◌, []};
 use base_items::ItemSort;
 use desk_names::NameTable;
 use notify_chain::SeatKey;
+use observe_core::KeptShape;
 use script_words::{Direction, LayerWord};
 use std::alloc::Global;
 use token_text::Text;
@@ -44,9 +45,21 @@ pub struct GuardRow {
     pub key: SeatKey,
 }
 
-/// The seats of a kept view: of its nodes, and of its arcs.
+/// What the layers of a kept view read: their shape, and the seats of the maps that they name. A
+/// map of such a view is never dropped and keeps its seat.
+#[derive(Clone, Copy)]
+pub struct KeptMaps {
+    pub shape: KeptShape,
+    pub node_filter: Option<SeatKey>,
+    pub arc_filter: Option<SeatKey>,
+    pub cap: Option<SeatKey>,
+    pub flow: Option<SeatKey>,
+}
+
+/// The seats of a kept view: of its nodes, and of its arcs, with what they are placed by.
 #[derive(Clone, Copy)]
 pub struct KeptKeys {
+    pub maps: KeptMaps,
     pub nodes: SeatKey,
     pub arcs: SeatKey,
 }

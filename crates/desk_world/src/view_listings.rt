@@ -9,7 +9,6 @@ ghost use Rattle.desk_world.specs.Plain.{plain_of};
 ghost use Rattle.desk_world.specs.InStep.{IsInStep};
 ghost use Rattle.desk_world.specs.Shown.{arcs_at};
 
-use crate::map_values::MapValues;
 use crate::world::World;
 use base_items::List;
 use desk_seats::Seat;
@@ -31,8 +30,7 @@ impl<B: Observer> World<Seat<B>> {
             return Ok(Reply::Nodes(self.list_nodes(alloc)?));
         }
         let layers = self.layers_of(alloc, view)?;
-        let values = MapValues::new(self)?;
-        Ok(Reply::Nodes(self.nodes_over(alloc, layers.as_slice(), &values)?))
+        Ok(Reply::Nodes(self.nodes_by(alloc, view, layers.as_slice())?))
     }
 
     /// The arcs that it shows.
@@ -46,12 +44,11 @@ impl<B: Observer> World<Seat<B>> {
             return Ok(Reply::Arcs(self.list_arcs(alloc)?));
         }
         let layers = self.layers_of(alloc, view)?;
-        let values = MapValues::new(self)?;
-        Ok(Reply::Arcs(self.arcs_over(alloc, layers.as_slice(), &values)?))
+        Ok(Reply::Arcs(self.arcs_by(alloc, view, layers.as_slice())?))
     }
 
     // The arcs from a node of a view, or to it. `Unknown` of the view, or else of the node.
-    fn arcs_by(
+    fn arcs_beside(
         &self,
         alloc: Global,
         view: &Text,
@@ -69,8 +66,7 @@ impl<B: Observer> World<Seat<B>> {
     {
         self.ask_view(alloc, view)?;
         let layers = self.layers_of(alloc, view)?;
-        let values = MapValues::new(self)?;
-        self.arcs_named_over(alloc, layers.as_slice(), &values, way, node)
+        self.arcs_named_by(alloc, view, layers.as_slice(), way, node)
     }
 
     /// The arcs from a node that a view shows.
@@ -80,7 +76,7 @@ impl<B: Observer> World<Seat<B>> {
             (commands.Out view.now node.now)
             (plain_of ⟦<Seat<B> as Observer>⟧.watch self.now) result }
     {
-        Ok(Reply::Out(self.arcs_by(alloc, view, Direction::Out, node)?))
+        Ok(Reply::Out(self.arcs_beside(alloc, view, Direction::Out, node)?))
     }
 
     /// The arcs to a node that a view shows.
@@ -90,6 +86,6 @@ impl<B: Observer> World<Seat<B>> {
             (commands.In view.now node.now)
             (plain_of ⟦<Seat<B> as Observer>⟧.watch self.now) result }
     {
-        Ok(Reply::In(self.arcs_by(alloc, view, Direction::In, node)?))
+        Ok(Reply::In(self.arcs_beside(alloc, view, Direction::In, node)?))
     }
 }

@@ -15,8 +15,8 @@ use std::alloc::{AllocError, Global};
 use view_core::Shown;
 use view_numbers::{NumberFault, list_arcs, list_nodes};
 
-// The fault of a view that isn't listed.
-fn not_listed(fault: NumberFault) -> StepFault
+/// The fault of a view that isn't listed.
+pub fn not_listed(fault: NumberFault) -> StepFault
     ensures { result ≡ told_as fault }
 {
     match fault {

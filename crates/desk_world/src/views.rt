@@ -8,6 +8,7 @@ ghost use Rattle.script_words.specs.declared.commands.LayerWord.TheVariants as w
 ghost use Rattle.script_words.specs.Valid.{IsValid};
 ghost use Rattle.plain_world.specs.Demands as demands;
 ghost use Rattle.plain_world.specs.Tables.{has_entry, oldest};
+ghost use Rattle.desk_world.specs.KeptViews.{NoneStand, views_of};
 ghost use Rattle.desk_world.specs.Shown.{with_view};
 ghost use Rattle.plain_world.specs.Views.{is_base};
 ghost use Rattle.desk_world.specs.Plain.{plain_of};
@@ -42,8 +43,8 @@ fn copy_given(alloc: Global, name: &Option<Text>) -> Result<Option<Text>, AllocE
     }
 }
 
-// The same layer once more.
-fn copy_layer(alloc: Global, layer: &LayerWord) -> Result<LayerWord, AllocError>
+/// The same layer once more.
+pub fn copy_layer(alloc: Global, layer: &LayerWord) -> Result<LayerWord, AllocError>
     ensures { IfOk result (λ copy. copy ≡ layer.now) }
 {
     match layer {
@@ -242,8 +243,8 @@ impl<B: Observer> World<Seat<B>> {
         Ok(Reply::Quiet)
     }
 
-    // Puts a view of a new name last. The error is want of memory; the plain world is then as
-    // before.
+    // Puts a view of a new name last, on which none stands. The error is want of memory; the plain
+    // world is then as before.
     fn put_view(
         &mut self,
         alloc: Global,
@@ -253,6 +254,7 @@ impl<B: Observer> World<Seat<B>> {
     ) -> Result<(), AllocError>
         requires in_step { AreInStep ⟦<Seat<B> as Observer>⟧.watch self.old }
         requires new { has_entry self.old.views.rows name.now ≡ false }
+        requires alone { NoneStand (views_of self.old.views.rows) name.now }
         ensures made { OnOk result (plain_of ⟦<Seat<B> as Observer>⟧.watch self.new
             ≡ with_view (plain_of ⟦<Seat<B> as Observer>⟧.watch self.old) name.now layer.now
             below.now) }
@@ -291,7 +293,7 @@ impl<B: Observer> World<Seat<B>> {
             return Err(wrong_type(alloc, name));
         }
         self.ask_alone(alloc, name)?;
-        let _ = self.views.remove(name);
+        self.remove_view(name);
         Ok(Reply::Quiet)
     }
 }

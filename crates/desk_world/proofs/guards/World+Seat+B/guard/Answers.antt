@@ -1,11 +1,12 @@
 use Rattle.std.proofs.Common.{sym, ap, subst, ◌∙◌}
 use Rattle.observe_core.specs.Conditions.{IsArmable}
 use Rattle.plain_world.specs.Tables.{has_entry}
+use Rattle.plain_world.specs.Valid.{IsWorld}
 use Rattle.desk_seats.specs.contracts.seat.SeatObserver.TheImpl.{watch-value}
 use Rattle.desk_world.specs.declared.world.World.{World}
 use Rattle.desk_world.specs.Boxes.{HasBoxAt, WentBack}
 use Rattle.desk_world.proofs.GuardCommands.{new_row, vetoed_step, seated_step, seated_in_step}
-use Rattle.desk_world.proofs.GuardReady.{found_armable}
+use Rattle.desk_world.proofs.GuardReady.{found_armable, roomy_in_step, roomy_plain}
 use Rattle.desk_world.proofs.guards.World+Seat+B.guard.Goals as goal
 
 pub seat_box-requires-clause-armable : goal.seat_box-requires-clause-armable
@@ -60,3 +61,14 @@ returns-in-Err-Refused-clause-step g c =
     (c.in_ok-name.ensures ∙ c.as_bytes.ensures) c.unwrap_or.ensures c.seat_box.new.self
     (subst (λ veto. WentBack w c.in_ok-place.place c.args.sort c.unwrap_or.result veto ready
     c.seat_box.new.self) c.in-Err-Refused.field-0-is c.in-Err-Refused.ensures.refused)
+
+pub returns-in_err-reserve-clause-in_step : goal.returns-in_err-reserve-clause-in_step
+returns-in_err-reserve-clause-in_step g c =
+    let w = (watch-value g.row.B g.B.Observer g.B.Observer-dict g.B.Destruct-dict).it in
+    let self = c.args.self.now in
+    let roomy = c.reserve.new.self in
+    let in_step = c.requires.in_step in
+    record {
+      seats = roomy_in_step w self roomy c.reserve.ensures.rows in_step.seats;
+      valid = subst IsWorld (sym (roomy_plain w self roomy c.reserve.ensures.rows)) in_step.valid;
+    }

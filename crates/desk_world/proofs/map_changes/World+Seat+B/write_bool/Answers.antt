@@ -10,7 +10,7 @@ use Rattle.desk_world.specs.Indexes.{is_index_kind}
 use Rattle.desk_world.specs.Plain.{tables_of}
 use Rattle.desk_world.proofs.WriteCalls.{map_sits, walk_begins, walk_sits, still_live, walk_steps}
 use Rattle.desk_world.proofs.WriteCalls.{walk_passes, no_index, walked_plain, IsWalked}
-use Rattle.desk_world.proofs.WriteCalls.{walked_in_step, same_tables, tables_kept}
+use Rattle.desk_world.proofs.WriteCalls.{walked_unplaced, same_tables, tables_kept}
 use Rattle.desk_world.proofs.map_changes.World+Seat+B.write_bool.Goals as goal
 use Rattle.desk_world.proofs.map_changes.World+Seat+B.write_bool.Goals.{in-Some, in_default}
 
@@ -102,7 +102,7 @@ returns g c =
           c.args.value c.args.id
           c.requires.in_step c.requires.of_type c.requires.row c.requires.live
           c.loop-place.place c.loop-place.self c.loop-place.invariant all;
-      in_step = walked_in_step w c.args.self.now c.args.sort c.args.map.now c.args.key
+      in_step = walked_unplaced w c.args.self.now c.args.sort c.args.map.now c.args.key
           c.args.value c.args.id
           c.requires.in_step c.requires.of_type c.requires.row c.requires.live
           c.loop-place.place c.loop-place.self c.loop-place.invariant all;

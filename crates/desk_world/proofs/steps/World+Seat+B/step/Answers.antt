@@ -490,6 +490,21 @@ returns-in-View g c =
       stamps = c.view.ensures.stamps;
     }
 
+pub returns-in-Keep : goal.returns-in-Keep
+returns-in-Keep g c =
+    let w = (watch-value g.row.B g.B.Observer g.B.Observer-dict g.B.Destruct-dict).it in
+    let old = plain_of w c.args.self.now in
+    let new = plain_of w c.keep.new.self in
+    let asked = commands.Keep c.in-Keep.name in
+    record {
+      answered = answered_by old new c.args.command.now asked c.in-Keep.is c.keep.result
+          c.keep.ensures.step;
+      refused = refused_by old new c.args.command.now asked c.in-Keep.is c.keep.result
+          c.keep.ensures.step;
+      in_step = c.keep.ensures.in_step;
+      stamps = c.keep.ensures.stamps;
+    }
+
 pub returns-in-Unview : goal.returns-in-Unview
 returns-in-Unview g c =
     let w = (watch-value g.row.B g.B.Observer g.B.Observer-dict g.B.Destruct-dict).it in
@@ -561,6 +576,36 @@ returns-in-In g c =
           c.in_of.ensures;
       refused = refused_by old new c.args.command.now asked c.in-In.is c.in_of.result
           c.in_of.ensures;
+      in_step = c.requires.in_step;
+      stamps = same_stamps _ _ refl;
+    }
+
+pub returns-in-Dijkstra : goal.returns-in-Dijkstra
+returns-in-Dijkstra g c =
+    let w = (watch-value g.row.B g.B.Observer g.B.Observer-dict g.B.Destruct-dict).it in
+    let old = plain_of w c.args.self.now in
+    let new = plain_of w c.args.self.now in
+    let asked = commands.Dijkstra c.in-Dijkstra.view c.in-Dijkstra.length c.in-Dijkstra.start in
+    record {
+      answered = answered_by old new c.args.command.now asked c.in-Dijkstra.is c.dijkstra.result
+          c.dijkstra.ensures;
+      refused = refused_by old new c.args.command.now asked c.in-Dijkstra.is c.dijkstra.result
+          c.dijkstra.ensures;
+      in_step = c.requires.in_step;
+      stamps = same_stamps _ _ refl;
+    }
+
+pub returns-in-Bellman : goal.returns-in-Bellman
+returns-in-Bellman g c =
+    let w = (watch-value g.row.B g.B.Observer g.B.Observer-dict g.B.Destruct-dict).it in
+    let old = plain_of w c.args.self.now in
+    let new = plain_of w c.args.self.now in
+    let asked = commands.Bellman c.in-Bellman.view c.in-Bellman.length c.in-Bellman.start in
+    record {
+      answered = answered_by old new c.args.command.now asked c.in-Bellman.is c.bellman.result
+          c.bellman.ensures;
+      refused = refused_by old new c.args.command.now asked c.in-Bellman.is c.bellman.result
+          c.bellman.ensures;
       in_step = c.requires.in_step;
       stamps = same_stamps _ _ refl;
     }

@@ -1,17 +1,13 @@
-use Rattle.std.proofs.Common.{◌≡◌, sym, ap, subst, ◌∙◌, All}
+use Rattle.std.proofs.Common.{sym, ap, ◌∙◌}
 use Rattle.script_words.specs.declared.commands.Command.TheVariants as commands
-use Rattle.script_words.specs.declared.commands.MapType.TheVariants as types
-use Rattle.plain_views.specs.Shown.{Shown}
-use Rattle.plain_views.specs.Towers as towers
-use Rattle.plain_world.specs.World as plain
-use Rattle.view_tower.specs.Layers.{tower_of, HasMaps}
+use Rattle.plain_world.specs.Views.{shown_by}
+use Rattle.view_tower.specs.Layers.{tower_of}
 use Rattle.desk_seats.specs.contracts.seat.SeatObserver.TheImpl.{watch-value}
 use Rattle.desk_world.specs.Faults.{Answers}
-use Rattle.desk_world.specs.MapNumbers.{numbered, numbered_tower, numbers_type}
 use Rattle.desk_world.specs.Plain.{plain_of}
 use Rattle.desk_world.proofs.BaseListed.{told_nodes}
 use Rattle.desk_world.proofs.Handed.{handed_on}
-use Rattle.desk_world.proofs.NumberedMaps.{maps_there}
+use Rattle.desk_world.proofs.KeptListed.{by_numbers}
 use Rattle.desk_world.proofs.ViewCommands.{no_row}
 use Rattle.desk_world.proofs.ViewListed.{nodes_refused, nodes_told}
 use Rattle.desk_world.proofs.view_listings.World+Seat+B.nodes_of.Goals as goal
@@ -25,32 +21,22 @@ returns-then-not-has g c =
     c.requires.valid.graph_ok c.in_ok-ask_view.ensures c.in_ok-list_nodes.field-0
     c.in_ok-list_nodes.ensures
 
-pub nodes_over-requires-clause-maps : goal.nodes_over-requires-clause-maps
-nodes_over-requires-clause-maps g c =
-    let w = (watch-value g.row.B g.B.Observer g.B.Observer-dict g.B.Destruct-dict).it in
-    let world = plain_of w c.args.self.now in
-    let list = c.as_slice.result.now in
-    subst (λ (v : plain.World). All (HasMaps (numbers_type v types.Ints)
-    (numbers_type v types.Bools)) list) (sym (ap (plain_of w) c.in_ok-values.ensures))
-    (maps_there world c.args.view.now list c.requires.valid
-    (ap tower_of c.as_slice.ensures.value ∙ c.in_ok-layers.ensures.layers))
+pub nodes_by-requires-clause-layers : goal.nodes_by-requires-clause-layers
+nodes_by-requires-clause-layers g c =
+    ap tower_of c.as_slice.ensures.value ∙ c.in_ok-layers.ensures.layers
 
-pub returns-in_err-nodes_over : goal.returns-in_err-nodes_over
-returns-in_err-nodes_over g c =
+pub returns-in_err-nodes_by : goal.returns-in_err-nodes_by
+returns-in_err-nodes_by g c =
     let w = (watch-value g.row.B g.B.Observer g.B.Observer-dict g.B.Destruct-dict).it in
     let world = plain_of w c.args.self.now in
     let view = c.args.view.now in
     let tower = tower_of c.as_slice.result.now in
-    let read = plain_of w c.in_ok-values.values.world.now in
-    let fault = c.in_err-nodes_over.field-0.0 in
-    handed_on (Answers world (commands.Nodes view) world) c.from_residual-in_err-nodes_over.result
-    fault c.from_residual-in_err-nodes_over.ensures.1
-    (nodes_refused world view tower
-    (ap tower_of c.as_slice.ensures.value ∙ c.in_ok-layers.ensures.layers)
-    (towers.shown (numbered read) world.graph tower)
-    (ap (λ (v : plain.World). towers.shown (numbered v) world.graph tower)
-    (ap (plain_of w) c.in_ok-values.ensures))
-    c.in_ok-ask_view.ensures fault c.in_err-nodes_over.ensures.full)
+    let is = ap tower_of c.as_slice.ensures.value ∙ c.in_ok-layers.ensures.layers in
+    let fault = c.in_err-nodes_by.field-0.0 in
+    handed_on (Answers world (commands.Nodes view) world) c.from_residual-in_err-nodes_by.result
+    fault c.from_residual-in_err-nodes_by.ensures.1
+    (nodes_refused world view tower is (shown_by world view) (by_numbers world view tower is)
+    c.in_ok-ask_view.ensures fault c.in_err-nodes_by.ensures.full)
 
 pub returns : goal.returns
 returns g c =
@@ -58,11 +44,7 @@ returns g c =
     let world = plain_of w c.args.self.now in
     let view = c.args.view.now in
     let tower = tower_of c.as_slice.result.now in
-    let read = plain_of w c.in_ok-values.values.world.now in
-    nodes_told world view tower
-    (ap tower_of c.as_slice.ensures.value ∙ c.in_ok-layers.ensures.layers)
-    (towers.shown (numbered read) world.graph tower)
-    (ap (λ (v : plain.World). towers.shown (numbered v) world.graph tower)
-    (ap (plain_of w) c.in_ok-values.ensures))
-    c.in_ok-ask_view.ensures c.in_ok-nodes_over.ensures.small
-    c.in_ok-nodes_over.field-0 c.in_ok-nodes_over.ensures.lines
+    let is = ap tower_of c.as_slice.ensures.value ∙ c.in_ok-layers.ensures.layers in
+    nodes_told world view tower is (shown_by world view) (by_numbers world view tower is)
+    c.in_ok-ask_view.ensures c.in_ok-nodes_by.ensures.small c.in_ok-nodes_by.field-0
+    c.in_ok-nodes_by.ensures.lines

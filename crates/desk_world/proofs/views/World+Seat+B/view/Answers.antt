@@ -5,7 +5,7 @@ use Rattle.desk_world.specs.Faults.{Answers}
 use Rattle.desk_world.specs.Plain.{plain_of}
 use Rattle.desk_world.proofs.Handed.{handed_on}
 use Rattle.desk_world.proofs.ViewCommands.{layer_refused, view_is_new, view_answered, view_valid}
-use Rattle.desk_world.proofs.ViewCommands.{view_there}
+use Rattle.desk_world.proofs.ViewCommands.{view_there, view_is_alone}
 use Rattle.desk_world.proofs.views.World+Seat+B.view.Goals as goal
 
 pub returns-in_err-ask_layer-clause-step : goal.returns-in_err-ask_layer-clause-step
@@ -28,6 +28,13 @@ put_view-requires-clause-new g c =
     sym (view_there w self c.args.name.now)
     ∙ view_is_new (plain_of w self) c.args.name.now c.args.layer.now c.args.below.now
     c.in_ok-ask_view.ensures c.in_ok-ask_layer.ensures c.in_ok-ask_layer_left.ensures
+
+pub put_view-requires-clause-alone : goal.put_view-requires-clause-alone
+put_view-requires-clause-alone g c =
+    let w = (watch-value g.row.B g.B.Observer g.B.Observer-dict g.B.Destruct-dict).it in
+    view_is_alone (plain_of w c.args.self.now) c.args.name.now c.args.layer.now c.args.below.now
+    c.in_ok-ask_view.ensures c.in_ok-ask_layer.ensures c.in_ok-ask_layer_left.ensures
+    c.requires.in_step.valid
 
 pub returns-clause-in_step : goal.returns-clause-in_step
 returns-clause-in_step g c =

@@ -7,9 +7,9 @@ use Rattle.desk_world.specs.declared.values.Value.TheVariants.{Int, Text}
 use Rattle.desk_world.specs.Plain.{plain_of}
 use Rattle.desk_world.specs.Seating.{Puts}
 use Rattle.desk_world.specs.Values.{HasType, type_for, put_at, held_with}
-use Rattle.desk_world.proofs.WriteCalls.{value_sits, value_now_in_step, value_now_written}
+use Rattle.desk_world.proofs.WriteCalls.{value_sits, value_now_unplaced, value_now_written}
 use Rattle.desk_world.proofs.WriteCalls.{ints_apart, texts_apart}
-use Rattle.desk_world.proofs.map_changes.World+Seat+B.write_row.Goals as goal
+use Rattle.desk_world.proofs.map_changes.World+Seat+B.write_maps.Goals as goal
 
 pub write_seat-requires : goal.write_seat-requires
 write_seat-requires g c =
@@ -58,7 +58,7 @@ returns-in-Int-clause-in_step g c =
     let puts = subst (λ v. Puts sort c.args.key.0 (held_with (Int v) c.args.id)
     (chains_seen w old.graph.chains) (chains_seen w c.write_seat.new.graph.chains))
     (to_z-of_z w64 c.in-Int.value fits) c.write_seat.ensures.puts in
-    value_now_in_step w old sort name c.args.key value c.args.id c.requires.in_step typed
+    value_now_unplaced w old sort name c.args.key value c.args.id c.requires.in_step typed
     c.requires.row c.requires.live c.write_seat.new.graph c.requires.differ puts
     c.write_seat.ensures.graph c.write_seat.ensures.in_step ints_apart
 
@@ -102,7 +102,7 @@ returns-in-Text-clause-in_step g c =
     let value = Text c.in-Text.value in
     let typed = subst (λ v. HasType (plain_of w old) sort name (type_for v)) c.in-Text.is
     c.requires.of_type in
-    value_now_in_step w old sort name c.args.key value c.args.id c.requires.in_step typed
+    value_now_unplaced w old sort name c.args.key value c.args.id c.requires.in_step typed
     c.requires.row c.requires.live c.write_seat-in-Text.new.graph c.requires.differ
     c.write_seat-in-Text.ensures.puts c.write_seat-in-Text.ensures.graph
     c.write_seat-in-Text.ensures.in_step texts_apart

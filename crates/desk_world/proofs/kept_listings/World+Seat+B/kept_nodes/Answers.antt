@@ -1,0 +1,35 @@
+use Rattle.std.proofs.Common.{sym, ap, ◌∙◌}
+use Rattle.std.specs.Option.{option_copied}
+use Rattle.base_items.specs.declared.items.ItemSort.TheVariants.{Node}
+use Rattle.alter_graph.specs.Chains.{chains_seen}
+use Rattle.notify_chain.specs.Seats.{seat_seen}
+use Rattle.kept_views.specs.Views.{nodes_of}
+use Rattle.desk_seats.specs.contracts.seat.SeatObserver.TheImpl.{watch-value}
+use Rattle.desk_world.specs.Placing.{own_role}
+use Rattle.desk_world.proofs.KeptShown.{none_sits, plays_there, items_there}
+use Rattle.desk_world.proofs.kept_listings.World+Seat+B.kept_nodes.Goals as goal
+
+pub unreachable-requires : goal.unreachable-requires
+unreachable-requires g c =
+    let w = (watch-value g.row.B g.B.Observer g.B.Observer-dict g.B.Destruct-dict).it in
+    let keys = c.args.keys.now in
+    none_sits w (chains_seen w c.args.self.now.graph.chains) Node keys.nodes.0
+    (own_role Node keys.maps) c.requires
+    (sym (ap (λ r. seat_seen w keys.nodes.0 (option_copied r)) c.in-None.is) ∙ c.seat.ensures)
+
+pub kept_nodes-requires : goal.kept_nodes-requires
+kept_nodes-requires g c =
+    let w = (watch-value g.row.B g.B.Observer g.B.Observer-dict g.B.Destruct-dict).it in
+    let keys = c.args.keys.now in
+    (plays_there w (chains_seen w c.args.self.now.graph.chains) Node keys.nodes.0
+    (own_role Node keys.maps) c.requires c.in-Some.seat.now
+    (sym (ap (λ r. seat_seen w keys.nodes.0 (option_copied r)) c.in-Some.is) ∙ c.seat.ensures)).form
+
+pub returns : goal.returns
+returns g c =
+    let w = (watch-value g.row.B g.B.Observer g.B.Observer-dict g.B.Destruct-dict).it in
+    let keys = c.args.keys.now in
+    items_there w (chains_seen w c.args.self.now.graph.chains) Node keys.nodes.0
+    (own_role Node keys.maps) c.requires c.in-Some.seat.now
+    (sym (ap (λ r. seat_seen w keys.nodes.0 (option_copied r)) c.in-Some.is) ∙ c.seat.ensures)
+    (nodes_of c.kept_nodes.result.now) c.kept_nodes.ensures
