@@ -8,6 +8,7 @@ use Rattle.plain_machine.specs.declared.statuses.Status.{Status}
 use Rattle.plain_machine.specs.Built.{Answers}
 use Rattle.plain_machine.specs.Words.{Shape, Asks}
 use Rattle.plain_machine.specs.Outcome.{Counts, Left, Handed, Ends, Outcome, HandsBackAtEnd}
+use Rattle.plain_machine.specs.Outcome.{EndsDrill}
 use Rattle.script_runs.specs.Handing.{EndsWhole, handed_by}
 use Rattle.script_runs.proofs.Handed.{hands_back}
 
@@ -73,3 +74,15 @@ module _ {X Y : Type 0} (plain : Y → World) (f : X → Y) (found : Option X) (
         subst (HandsBackAtEnd status) played_handed
             (hands_back (λ x. plain (f x)) status found whole),
       )
+
+  -- so is what a drill comes to
+  pub as_drill : (kinds pool : List GuardWord) (seed lines : ℕ) (out : List ℕ) (before now : ℕ)
+      (status : Status) → kinds ≡ pool
+      → EndsDrill Answers kinds seed lines out (handed_by (λ x. plain (f x)) found) before now
+      status
+      → EndsDrill Answers pool seed lines out (handed_by plain last) before now status
+  as_drill kinds pool seed lines out before now status same ends =
+      let ended : List GuardWord → Handed → Type 0 =
+      λ p h. EndsDrill Answers p seed lines out h before now status in
+      subst (ended pool) played_handed
+      (subst (λ p. ended p (handed_by (λ x. plain (f x)) found)) same ends)

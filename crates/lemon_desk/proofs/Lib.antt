@@ -2,3 +2,4 @@ mod Seated
 mod Finals
 mod Told
 mod Boxes
+mod NoFiles

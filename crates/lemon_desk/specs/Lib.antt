@@ -1,3 +1,4 @@
 pub mod Pool
 pub mod Found
 pub mod Told
+pub mod Unfiled

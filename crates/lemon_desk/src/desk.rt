@@ -4,6 +4,7 @@ ghost use Rattle.std.specs.Prelude.{◌≡◌, IfOk, map, option_map};
 ghost use Rattle.lemon_desk.specs.Found.{found_in, in_seat};
 
 use crate::boxed::Boxed;
+use base_items::ItemSort;
 use desk_seats::Seat;
 use lgf_file::Doc;
 use observe_core::Observer;
@@ -54,6 +55,10 @@ impl<B: Observer> Desk for Played<B> {
 
     fn built(command: &Command) -> bool {
         desk_world::built(command)
+    }
+
+    fn live(&self, sort: ItemSort) -> u32 {
+        self.world.live(sort)
     }
 
     fn step(&mut self, alloc: Global, command: &Command) -> Result<Reply, StepFault> {

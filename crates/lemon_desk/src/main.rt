@@ -13,6 +13,7 @@ pub mod pool;
 pub mod serve;
 #[cfg(test)]
 mod tests;
+mod unfiled;
 
 use exit_codes::exit_code;
 use file_shelf::FileShelf;

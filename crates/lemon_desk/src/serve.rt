@@ -6,9 +6,13 @@ ghost use Rattle.edge_io.specs.Files.{Files, HoldsWithin, Took};
 ghost use Rattle.token_text.specs.Lines.{lines_of};
 ghost use Rattle.lgf_file.specs.Documents.{Spells};
 ghost use Rattle.lgf_file.specs.declared.documents.Doc.{Doc as Document};
-ghost use Rattle.plain_machine.specs.Words.{RunOn, Asks, AskNothing, contents};
+ghost use Rattle.lgf_file.specs.Plain.{plain};
+ghost use Rattle.plain_machine.specs.Generator.{made};
+ghost use Rattle.plain_machine.specs.Built.{Answers};
+ghost use Rattle.plain_machine.specs.Words.{RunOn, MakeOf, DrillOf, Asks, AskNothing, contents};
 ghost use Rattle.plain_machine.specs.Inputs.{HasGraph, HasTooLong, LacksNeeded, ReadRose, SavesTo};
-ghost use Rattle.plain_machine.specs.Outcome.{Counts, Outcome, EndsUsage, IsAnswered, EndsEarly};
+ghost use Rattle.plain_machine.specs.Outcome.{Counts, Outcome, EndsUsage, EndsText, EndsDrill};
+ghost use Rattle.plain_machine.specs.Outcome.{IsAnswered, EndsEarly};
 ghost use Rattle.plain_machine.specs.Statuses.{EndsByFault};
 ghost use Rattle.plain_digraph.specs.Lists.{AllOf};
 ghost use Rattle.desk_world.specs.InStep.{IsInStep};
@@ -20,21 +24,24 @@ ghost use Rattle.lemon_desk.specs.Told.{AllTrack};
 
 use crate::boxed::Boxed;
 use crate::desk::{Final, Played, as_final, wrap_boxes};
+use crate::unfiled::answer_unfiled;
 use desk_seats::Seat;
 use edge_io::{Shelf, Sink};
 use observe_core::Observer;
 use plain_machine::{GRAPH_LIMIT, SCRIPT_LIMIT, Status};
-use script_runs::{refuse_words, run_files, run_names};
+use script_runs::{run_files, run_names};
 use std::alloc::Global;
 
-/// Runs a script on a graph, and writes its answers to the report.
+/// Runs a script on a graph, makes a graph from a seed, or runs a drill, and writes to the report.
 ///
 /// The words are those after the program's name: `run`, the name of the graph file and the name of
-/// the script. The pool has the guards that the script may attach; each has to be one that tracks
-/// nothing. What went out, the files, the status and the world that is handed back are an outcome
-/// of the plain machine for these words, boxes and files. A fault of the outside comes only where
-/// the count of that file, or of the report, rose in this call. Want of memory may come at any
-/// place.
+/// the script; or `make`, a seed from 1 to 2147483646 and how many nodes and arcs there are to be,
+/// from 1 to 100000 and from 0 to 400000; or `drill`, such a seed and how many lines are drawn,
+/// from 0 to 100000. The pool has the guards that a script may attach; each has to be one that
+/// tracks nothing. What went out, the files, the status and the world that is handed back are an
+/// outcome of the plain machine for these words, boxes and files. A fault of the outside comes only
+/// where the count of that file, or of the report, rose in this call. Want of memory may come at
+/// any place.
 pub fn serve<S: Shelf, K: Sink>(
     alloc: Global,
     words: &[Vec<u8>],
@@ -62,10 +69,13 @@ pub fn serve<S: Shelf, K: Sink>(
           now = now;
         }) result.0 }
     // A world is handed back exactly where the words have the shape of a run and all lines were
-    // answered. Its seats are in step with its digraph and its tables.
+    // answered, or that of a drill and its line went out. Its seats are in step with its digraph
+    // and its tables.
     ensures handed { IsSome (found_in result.1)
-        ↔ ((graph : List ℕ) × (script : List ℕ) × Asks (contents words.now) (RunOn graph script)
-        × EndsWhole result.0) }
+        ↔ (((graph : List ℕ) × (script : List ℕ) × Asks (contents words.now) (RunOn graph script)
+        × EndsWhole result.0)
+        ⊎ ((seed : ℕ) × (lines : ℕ) × Asks (contents words.now) (DrillOf seed lines)
+        × (result.0 ≡ Status.Done))) }
     ensures in_step { IfSome (found_in result.1)
         (IsInStep ⟦<Seat<Boxed> as Observer>⟧.watch) }
     // What each guard in it tracks is exactly the live items of its sort, and its law holds of
@@ -79,6 +89,22 @@ pub fn serve<S: Shelf, K: Sink>(
     ensures shapeless { AskNothing (contents words.now) → (out : List ℕ)
         × Took (K.taken report.old) (K.taken report.new) out
         × EndsUsage out (K.faults report.old) (K.faults report.new) result.0
+        × (S.files shelf.new ≡ S.files shelf.old) }
+    // Where the words ask for a graph, its text goes out, or a prefix of it before a write failed
+    // or memory ran out. No file is stored.
+    ensures made { (seed nodes arcs : ℕ) → Asks (contents words.now) (MakeOf seed nodes arcs)
+        → (out : List ℕ) × Took (K.taken report.old) (K.taken report.new) out
+        × EndsText (plain (made seed nodes arcs)) out (K.faults report.old) (K.faults report.new)
+        result.0
+        × (S.files shelf.new ≡ S.files shelf.old) }
+    // Where the words ask for a drill, its line goes out and its world is handed back, or a prefix
+    // of the line goes out before a write failed, or nothing where memory ran out. No file is
+    // stored.
+    ensures drilled { (seed lines : ℕ) → Asks (contents words.now) (DrillOf seed lines)
+        → (out : List ℕ) × Took (K.taken report.old) (K.taken report.new) out
+        × EndsDrill Answers (kinds_of (λ it. watch it) pool.items) seed lines out
+        (handed_by (plain_of ⟦<Seat<Boxed> as Observer>⟧.watch) (found_in result.1))
+        (K.faults report.old) (K.faults report.new) result.0
         × (S.files shelf.new ≡ S.files shelf.old) }
     // A read fault only where the count of a file whose bytes are needed rose; nothing went out,
     // and no file is stored.
@@ -126,7 +152,7 @@ pub fn serve<S: Shelf, K: Sink>(
         → (Rose (K.faults report.old) (K.faults report.new) → ⊥) → IsAnswered result.0 }
 {
     let Some((graph, script)) = run_names(words) else {
-        return (refuse_words(report), Final::Nothing);
+        return answer_unfiled(alloc, words, report, pool);
     };
     let Ok(boxes) = wrap_boxes(alloc, pool) else {
         return (Status::Memory, Final::Nothing);

@@ -2,13 +2,18 @@
 
 mod alterations;
 mod derived;
+mod drilling;
 mod faults;
 mod graphs;
 mod guards;
+mod kept;
+mod large_run;
 mod limits;
+mod making;
 mod maps;
 mod no_graphs;
 mod own_box;
+mod paths;
 mod saves;
 mod scripts;
 mod snapshots;
@@ -107,7 +112,9 @@ fn check_row<R: Abort>(rt: &R, alloc: Global, row: &Row<'_>) -> Result<(), Alloc
     let name = row.name;
     let (status, has_world) = serve_with_boxes(alloc, words.as_slice(), &mut shelf, &mut report)?;
     assert_eq!(rt; status, row.status, "{name}");
-    assert_eq!(rt; has_world, is_whole(row.status), "{name}");
+    // Words that ask for a run or for a drill are three.
+    let has_lines = row.words.len() == RUN.len();
+    assert_eq!(rt; has_world, has_lines && is_whole(row.status), "{name}");
     assert_eq!(rt; report.taken(), row.report, "{name}");
     assert_eq!(rt;
         (shelf.memory_faults(), report.memory_faults()),
@@ -123,6 +130,25 @@ fn check_row<R: Abort>(rt: &R, alloc: Global, row: &Row<'_>) -> Result<(), Alloc
 fn check_rows<R: Abort>(rt: &R, alloc: Global, rows: &[Row<'_>]) -> Result<(), AllocError> {
     for row in rows {
         check_row(rt, alloc, row)?;
+    }
+    Ok(())
+}
+
+// Words of no shape.
+fn check_shapeless<R: Abort>(
+    rt: &R,
+    alloc: Global,
+    shapeless: &[&[&[u8]]],
+) -> Result<(), AllocError> {
+    for words in shapeless {
+        let row = Row {
+            name: "words of no shape",
+            words: *words,
+            report: b"usage: lgdesk run GRAPH SCRIPT | make SEED N M | drill SEED K\n",
+            status: Status::Usage,
+            ..PLAIN
+        };
+        check_row(rt, alloc, &row)?;
     }
     Ok(())
 }

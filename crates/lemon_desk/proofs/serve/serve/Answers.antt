@@ -4,71 +4,85 @@ use Rattle.std.specs.Prelude.{IsSome}
 use Rattle.edge_io.specs.Files.{Took}
 use Rattle.plain_machine.specs.declared.statuses.Status.TheVariants as statuses
 use Rattle.plain_machine.specs.Words.{RunOn}
-use Rattle.plain_machine.specs.Outcome.{EndsUsage}
+use Rattle.plain_machine.proofs.Apart.{run_or_graph, run_or_drill}
+use Rattle.script_runs.proofs.Handed.{hands_back}
 use Rattle.script_runs.proofs.Nothing.{took_nothing}
-use Rattle.script_runs.proofs.Handed.{nothing_back, hands_back, usage_not_whole}
 use Rattle.script_runs.proofs.Clauses.{lacking_named, too_long_named, bad_graph_named}
 use Rattle.script_runs.proofs.Clauses.{complete_named}
 use Rattle.lemon_desk.proofs.Seated.{all_seated, each_seated}
 use Rattle.lemon_desk.proofs.Finals.{there, there_before, holds_of_last, as_outcome}
 use Rattle.lemon_desk.proofs.Told.{found_tracked}
+use Rattle.lemon_desk.proofs.NoFiles.{unfiled_outcome, unfiled_usage, unfiled_shapeless}
+use Rattle.lemon_desk.proofs.NoFiles.{unfiled_made, unfiled_drilled, unfiled_read}
+use Rattle.lemon_desk.proofs.NoFiles.{unfiled_write, done_whole}
 use Rattle.lemon_desk.proofs.serve.serve.Goals as goal
 
 -- ---- the words have no shape
 
 pub returns-in_default-clause-outcome : goal.returns-in_default-clause-outcome
 returns-in_default-clause-outcome g c = λ files told.
-    let wrote = c.refuse_words.ensures.ends in (
-      wrote.0,
-      files,
-      wrote.1,
-      told,
-      (inl (c.in_default.ensures.none, wrote.2, refl), nothing_back c.refuse_words.result),
-    )
+    let wrote = c.answer_unfiled.ensures.ends in
+    let back = hands_back _ _ _
+    (λ there. done_whole _ (c.answer_unfiled.ensures.handed.0 there).3) in
+    (wrote.0, files, wrote.1, told, unfiled_outcome _ _ files _ _ _ _ _ back wrote.2)
 
 pub returns-in_default-clause-handed : goal.returns-in_default-clause-handed
 returns-in_default-clause-handed g c = (
-  λ there. absurd (true≢false (sym there)),
-  λ ran. absurd (c.in_default.ensures.none (RunOn ran.0 ran.1) ran.2),
+  λ there. inr (c.answer_unfiled.ensures.handed.0 there),
+  ⊎_elim (λ ran. absurd (c.in_default.ensures.none ran.0 ran.1 ran.2))
+      (λ drilled. c.answer_unfiled.ensures.handed.1 drilled),
 )
+
+pub returns-in_default-clause-told : goal.returns-in_default-clause-told
+returns-in_default-clause-told g c = found_tracked _ _ c.answer_unfiled.ensures.in_step
+
+pub returns-in_default-clause-usage : goal.returns-in_default-clause-usage
+returns-in_default-clause-usage g c =
+    unfiled_usage _ _ _ _ _ _ _ c.answer_unfiled.ensures.ends.2
 
 pub returns-in_default-clause-shapeless : goal.returns-in_default-clause-shapeless
 returns-in_default-clause-shapeless g c = λ none.
-    let wrote = c.refuse_words.ensures.ends in
-    (wrote.0, wrote.1, wrote.2, refl)
+    let wrote = c.answer_unfiled.ensures.ends in
+    (wrote.0, wrote.1, unfiled_shapeless _ _ _ _ _ _ _ none wrote.2, refl)
+
+pub returns-in_default-clause-made : goal.returns-in_default-clause-made
+returns-in_default-clause-made g c = λ seed nodes arcs asks.
+    let wrote = c.answer_unfiled.ensures.ends in
+    (wrote.0, wrote.1, unfiled_made _ _ _ _ _ _ _ seed nodes arcs asks wrote.2, refl)
+
+pub returns-in_default-clause-drilled : goal.returns-in_default-clause-drilled
+returns-in_default-clause-drilled g c = λ seed lines asks.
+    let wrote = c.answer_unfiled.ensures.ends in
+    (wrote.0, wrote.1, unfiled_drilled _ _ _ _ _ _ _ seed lines asks wrote.2, refl)
 
 pub returns-in_default-clause-read : goal.returns-in_default-clause-read
 returns-in_default-clause-read g c = λ read.
-    let wrote = c.refuse_words.ensures.ends in
-    absurd (subst (EndsUsage wrote.0 (g.K.Sink.faults c.args.report.now)
-    (g.K.Sink.faults c.refuse_words.new.report)) read wrote.2)
+    absurd (unfiled_read _ _ _ _ _ _ _ c.answer_unfiled.ensures.ends.2 read)
 
 pub returns-in_default-clause-write : goal.returns-in_default-clause-write
 returns-in_default-clause-write g c = λ write.
-    let wrote = c.refuse_words.ensures.ends in
-    inl (subst (EndsUsage wrote.0 (g.K.Sink.faults c.args.report.now)
-    (g.K.Sink.faults c.refuse_words.new.report)) write wrote.2).1
+    inl (unfiled_write _ _ _ _ _ _ _ c.answer_unfiled.ensures.ends.2 write)
 
 pub returns-in_default-clause-quiet : goal.returns-in_default-clause-quiet
 returns-in_default-clause-quiet g c =
-    ⊎_elim inl (λ same. inr ((λ name. refl), (λ name. refl), same)) c.refuse_words.ensures.quiet
+    ⊎_elim inl (λ same. inr ((λ name. refl), (λ name. refl), same)) c.answer_unfiled.ensures.quiet
 
 pub returns-in_default-clause-lacking : goal.returns-in_default-clause-lacking
 returns-in_default-clause-lacking g c = λ files graph script told asks lacks.
-    absurd (c.in_default.ensures.none (RunOn graph script) asks)
+    absurd (c.in_default.ensures.none graph script asks)
 
 pub returns-in_default-clause-too_long : goal.returns-in_default-clause-too_long
 returns-in_default-clause-too_long g c = λ files graph script told asks long.
-    absurd (c.in_default.ensures.none (RunOn graph script) asks)
+    absurd (c.in_default.ensures.none graph script asks)
 
 pub returns-in_default-clause-bad_graph : goal.returns-in_default-clause-bad_graph
 returns-in_default-clause-bad_graph g c = λ files graph script bytes told asks held none.
-    absurd (c.in_default.ensures.none (RunOn graph script) asks)
+    absurd (c.in_default.ensures.none graph script asks)
 
 pub returns-in_default-clause-complete : goal.returns-in_default-clause-complete
 returns-in_default-clause-complete g c =
     λ files graph script text doc told asks has within first second third last.
-    absurd (c.in_default.ensures.none (RunOn graph script) asks)
+    absurd (c.in_default.ensures.none graph script asks)
 
 -- ---- memory ran out before the run
 
@@ -82,13 +96,25 @@ returns-in_default-wrap_boxes-clause-outcome g c = λ files told. (
 )
 
 pub returns-in_default-wrap_boxes-clause-handed : goal.returns-in_default-wrap_boxes-clause-handed
-returns-in_default-wrap_boxes-clause-handed g c =
-    (λ there. absurd (true≢false (sym there)), λ ran. absurd ran.3)
+returns-in_default-wrap_boxes-clause-handed g c = (
+  λ there. absurd (true≢false (sym there)),
+  ⊎_elim (λ ran. absurd ran.3)
+      (λ drilled. absurd (run_or_drill _ _ _ _ _ c.in-Some.ensures.some drilled.2)),
+)
 
 pub returns-in_default-wrap_boxes-clause-shapeless :
     goal.returns-in_default-wrap_boxes-clause-shapeless
 returns-in_default-wrap_boxes-clause-shapeless g c = λ none.
     absurd (none (RunOn _ _) c.in-Some.ensures.some)
+
+pub returns-in_default-wrap_boxes-clause-made : goal.returns-in_default-wrap_boxes-clause-made
+returns-in_default-wrap_boxes-clause-made g c = λ seed nodes arcs asks.
+    absurd (run_or_graph _ _ _ seed nodes arcs c.in-Some.ensures.some asks)
+
+pub returns-in_default-wrap_boxes-clause-drilled :
+    goal.returns-in_default-wrap_boxes-clause-drilled
+returns-in_default-wrap_boxes-clause-drilled g c = λ seed lines asks.
+    absurd (run_or_drill _ _ _ seed lines c.in-Some.ensures.some asks)
 
 pub returns-in_default-wrap_boxes-clause-quiet : goal.returns-in_default-wrap_boxes-clause-quiet
 returns-in_default-wrap_boxes-clause-quiet g c = inr ((λ name. refl), (λ name. refl), refl)
@@ -136,15 +162,16 @@ returns-clause-handed g c =
     let is = c.as_final.ensures in
     let asks = c.in-Some.ensures.some in
     let whole = c.run_files-status.ensures.handed in (
-      λ back. (
+      λ back. inl (
         _,
         _,
         asks,
         whole.0 (there_before _ _
             (subst (λ found. IsSome found) is back)),
       ),
-      λ ran. subst (λ found. IsSome found) (sym is)
-          (there _ _ (whole.1 ran.3)),
+      ⊎_elim (λ ran. subst (λ found. IsSome found) (sym is)
+          (there _ _ (whole.1 ran.3)))
+          (λ drilled. absurd (run_or_drill _ _ _ _ _ asks drilled.2)),
     )
 
 pub returns-clause-in_step : goal.returns-clause-in_step
@@ -160,6 +187,14 @@ returns-clause-usage g c = λ usage. absurd (c.run_files-status.ensures.asked us
 
 pub returns-clause-shapeless : goal.returns-clause-shapeless
 returns-clause-shapeless g c = λ none. absurd (none (RunOn _ _) c.in-Some.ensures.some)
+
+pub returns-clause-made : goal.returns-clause-made
+returns-clause-made g c = λ seed nodes arcs asks.
+    absurd (run_or_graph _ _ _ seed nodes arcs c.in-Some.ensures.some asks)
+
+pub returns-clause-drilled : goal.returns-clause-drilled
+returns-clause-drilled g c = λ seed lines asks.
+    absurd (run_or_drill _ _ _ seed lines c.in-Some.ensures.some asks)
 
 pub returns-clause-read : goal.returns-clause-read
 returns-clause-read g c = λ fault.
