@@ -1,0 +1,4 @@
+pub mod Picked
+pub mod SameCosts
+pub mod SameCuts
+pub mod SamePairs
