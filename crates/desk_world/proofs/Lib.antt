@@ -180,3 +180,14 @@ pub mod KeepMaps
 pub mod PlacedAll
 pub mod KeptComing
 pub mod KeptSeated
+pub mod FlowWrites
+pub mod FlowLines
+pub mod PairsTold
+pub mod FlowInto
+pub mod FlowsTold
+pub mod DemandParts
+pub mod BoundsAsked
+pub mod BoundsRead
+pub mod BoundsTold
+pub mod CostsTold
+pub mod FlowAsked

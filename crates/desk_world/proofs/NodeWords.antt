@@ -209,6 +209,17 @@ listed test (y ∷ ys) x is =
       | false ↦ λ found. or_right (y == x) (has ys x) (rest found)
     ] is
 
+-- and passes the test
+pub passes : (test : ℕ → Bool) (xs : List ℕ) (x : ℕ) → find test xs ≡ Some x → test x ≡ true
+passes test [] x is = absurd (none-some x is)
+passes test (y ∷ ys) x is =
+    let rest = passes test ys x in
+    elim (test y) as (λ b. test y ≡ b → cond b (Some y) (find test ys) ≡ Some x
+    → test x ≡ true) [
+      | true ↦ λ at found. ap test (sym (same_Some y x found)) ∙ at
+      | false ↦ λ at found. rest found
+    ] refl is
+
 -- ---- words and nodes
 
 module _ {M : Type 0} (world : World) (tower : List (Layer M)) (ok : IsWorld world) where
@@ -218,16 +229,6 @@ module _ {M : Type 0} (world : World) (tower : List (Layer M)) (ok : IsWorld wor
   label_found label own is =
       (bytes_eq-Decides (label_of world Node own) label).0
       (passes (λ id. bytes_eq (label_of world Node id) label) _ own is)
-    where
-      passes : (test : ℕ → Bool) (xs : List ℕ) (x : ℕ) → find test xs ≡ Some x → test x ≡ true
-      passes test [] x is = absurd (none-some x is)
-      passes test (y ∷ ys) x is =
-          let rest = passes test ys x in
-          elim (test y) as (λ b. test y ≡ b → cond b (Some y) (find test ys) ≡ Some x
-          → test x ≡ true) [
-            | true ↦ λ at found. ap test (sym (same_Some y x found)) ∙ at
-            | false ↦ λ at found. rest found
-          ] refl is
 
   -- the node that comes by the word has it as name
   pub named_so : (word : Name) (node : ℕ) → ComesBy world tower word node

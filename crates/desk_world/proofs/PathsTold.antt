@@ -112,7 +112,7 @@ module _ (world : World) (view length_map start : Name) (asked : AskedView)
 
   module _ (node number : ℕ) (named : node_named world view start ≡ Some node)
       (is : number ≡ place_of asked.fixed.nodes node) where
-    place_is : number ≡ place_of (shown_by world view).nodes node
+    pub place_is : number ≡ place_of (shown_by world view).nodes node
     place_is =
         is ∙ (λ i. place_of (asks.numbers.nodes i) node)
         ∙ ap (λ v. place_of (shown_by world v).nodes node) view_is

@@ -62,7 +62,7 @@ module _ {M N : Type 0} (name : ItemSort → M → N) where
       ap (λ marks. marks ++ cond (is_even node) (codes "i") (codes "o"))
       (same_marks below (half node))
 
-  same_origin : (tower : List (Layer M)) (arc : ℕ)
+  pub same_origin : (tower : List (Layer M)) (arc : ℕ)
       → arc_origin (other tower) arc ≡ arc_origin tower arc
   same_origin [] arc = refl
   same_origin (Reverse ∷ below) arc = same_origin below arc

@@ -34,3 +34,7 @@ pub mod Shown
 pub mod NumberLaws
 pub mod AskedViews
 pub mod AskedPaths
+pub mod Flows
+pub mod AskedPairs
+pub mod AskedFlows
+pub mod AskedBounds

@@ -63,6 +63,11 @@ pub fn built(command: &Command) -> bool
         Command::In(_, _) => true,
         Command::Dijkstra(_, _, _) => true,
         Command::Bellman(_, _, _) => true,
+        Command::MaxFlow(_, _, _, _, _) => true,
+        Command::Circulate(_, _, _, _, _) => true,
+        Command::MinCost(_, _, _, _, _, _) => true,
+        Command::Simplex(_, _, _, _, _, _) => true,
+        Command::Match(_, _) => true,
         Command::Tie(_, _) => true,
         Command::Untie(_) => true,
         Command::Attr(_) => true,
@@ -134,6 +139,17 @@ impl<B: Observer> World<Seat<B>> {
             Command::In(view, node) => self.in_of(alloc, view, node),
             Command::Dijkstra(view, length, start) => self.dijkstra(alloc, view, length, start),
             Command::Bellman(view, length, start) => self.bellman(alloc, view, length, start),
+            Command::MaxFlow(view, cap, s, t, into) => self.flow(alloc, view, cap, s, t, into),
+            Command::Circulate(view, low, up, supply, into) => {
+                self.circulation(alloc, view, low, up, supply, into)
+            }
+            Command::MinCost(view, low, up, cost, supply, into) => {
+                self.cheapest(alloc, view, low, up, cost, supply, into)
+            }
+            Command::Simplex(view, low, up, cost, supply, into) => {
+                self.cheapest(alloc, view, low, up, cost, supply, into)
+            }
+            Command::Match(view, left) => self.pair(alloc, view, left),
             Command::Tie(attribute, sort) => self.tie(alloc, attribute, *sort),
             Command::Untie(attribute) => self.untie(alloc, attribute),
             Command::Attr(attribute) => self.attr(alloc, attribute),

@@ -95,8 +95,13 @@ impl<B: Observer> World<Seat<B>> {
         Ok(())
     }
 
-    // Asks that there is a map of the name, if one is given.
-    fn ask_given(&self, alloc: Global, sort: ItemSort, name: &Option<Text>) -> Result<(), StepFault>
+    /// Asks that there is a map of the name, if one is given.
+    pub(crate) fn ask_given(
+        &self,
+        alloc: Global,
+        sort: ItemSort,
+        name: &Option<Text>,
+    ) -> Result<(), StepFault>
         requires { IsInStep ⟦<Seat<B> as Observer>⟧.watch self.now }
         ensures { let world = plain_of ⟦<Seat<B> as Observer>⟧.watch self.now in
             MeetsAll world (demands.given (demands.There (demands.Maps sort)) name.now) result }
@@ -107,8 +112,8 @@ impl<B: Observer> World<Seat<B>> {
         }
     }
 
-    // Asks that the map has values of the type, if one is given.
-    fn ask_given_type(
+    /// Asks that the map has values of the type, if one is given.
+    pub(crate) fn ask_given_type(
         &self,
         alloc: Global,
         sort: ItemSort,

@@ -610,6 +610,94 @@ returns-in-Bellman g c =
       stamps = same_stamps _ _ refl;
     }
 
+pub returns-in-MaxFlow : goal.returns-in-MaxFlow
+returns-in-MaxFlow g c =
+    let w = (watch-value g.row.B g.B.Observer g.B.Observer-dict g.B.Destruct-dict).it in
+    let old = plain_of w c.args.self.now in
+    let new = plain_of w c.flow.new.self in
+    let asked = commands.MaxFlow c.in-MaxFlow.view c.in-MaxFlow.cap c.in-MaxFlow.s
+        c.in-MaxFlow.t c.in-MaxFlow.into in
+    record {
+      answered = answered_by old new c.args.command.now asked c.in-MaxFlow.is c.flow.result
+          c.flow.ensures.step;
+      refused = refused_by old new c.args.command.now asked c.in-MaxFlow.is c.flow.result
+          c.flow.ensures.step;
+      in_step = c.flow.ensures.in_step;
+      stamps = c.flow.ensures.stamps;
+    }
+
+pub circulation-requires-clause-valid : goal.circulation-requires-clause-valid
+circulation-requires-clause-valid g c = subst IsValid c.in-Circulate.is c.requires.valid
+
+pub returns-in-Circulate : goal.returns-in-Circulate
+returns-in-Circulate g c =
+    let w = (watch-value g.row.B g.B.Observer g.B.Observer-dict g.B.Destruct-dict).it in
+    let old = plain_of w c.args.self.now in
+    let new = plain_of w c.circulation.new.self in
+    let asked = commands.Circulate c.in-Circulate.view c.in-Circulate.low c.in-Circulate.up
+        c.in-Circulate.supply c.in-Circulate.into in
+    record {
+      answered = answered_by old new c.args.command.now asked c.in-Circulate.is c.circulation.result
+          c.circulation.ensures.step;
+      refused = refused_by old new c.args.command.now asked c.in-Circulate.is c.circulation.result
+          c.circulation.ensures.step;
+      in_step = c.circulation.ensures.in_step;
+      stamps = c.circulation.ensures.stamps;
+    }
+
+pub cheapest-requires-clause-valid : goal.cheapest-requires-clause-valid
+cheapest-requires-clause-valid g c = subst IsValid c.in-MinCost.is c.requires.valid
+
+pub returns-in-MinCost : goal.returns-in-MinCost
+returns-in-MinCost g c =
+    let w = (watch-value g.row.B g.B.Observer g.B.Observer-dict g.B.Destruct-dict).it in
+    let old = plain_of w c.args.self.now in
+    let new = plain_of w c.cheapest.new.self in
+    let asked = commands.MinCost c.in-MinCost.view c.in-MinCost.low c.in-MinCost.up
+        c.in-MinCost.cost c.in-MinCost.supply c.in-MinCost.into in
+    record {
+      answered = answered_by old new c.args.command.now asked c.in-MinCost.is c.cheapest.result
+          c.cheapest.ensures.less;
+      refused = refused_by old new c.args.command.now asked c.in-MinCost.is c.cheapest.result
+          c.cheapest.ensures.less;
+      in_step = c.cheapest.ensures.in_step;
+      stamps = c.cheapest.ensures.stamps;
+    }
+
+pub cheapest-requires-in-Simplex-clause-valid : goal.cheapest-requires-in-Simplex-clause-valid
+cheapest-requires-in-Simplex-clause-valid g c = subst IsValid c.in-Simplex.is c.requires.valid
+
+pub returns-in-Simplex : goal.returns-in-Simplex
+returns-in-Simplex g c =
+    let w = (watch-value g.row.B g.B.Observer g.B.Observer-dict g.B.Destruct-dict).it in
+    let old = plain_of w c.args.self.now in
+    let new = plain_of w c.cheapest-in-Simplex.new.self in
+    let asked = commands.Simplex c.in-Simplex.view c.in-Simplex.low c.in-Simplex.up
+        c.in-Simplex.cost c.in-Simplex.supply c.in-Simplex.into in
+    record {
+      answered = answered_by old new c.args.command.now asked c.in-Simplex.is
+          c.cheapest-in-Simplex.result c.cheapest-in-Simplex.ensures.step;
+      refused = refused_by old new c.args.command.now asked c.in-Simplex.is
+          c.cheapest-in-Simplex.result c.cheapest-in-Simplex.ensures.step;
+      in_step = c.cheapest-in-Simplex.ensures.in_step;
+      stamps = c.cheapest-in-Simplex.ensures.stamps;
+    }
+
+pub returns-in-Match : goal.returns-in-Match
+returns-in-Match g c =
+    let w = (watch-value g.row.B g.B.Observer g.B.Observer-dict g.B.Destruct-dict).it in
+    let old = plain_of w c.args.self.now in
+    let new = plain_of w c.args.self.now in
+    let asked = commands.Match c.in-Match.view c.in-Match.left in
+    record {
+      answered = answered_by old new c.args.command.now asked c.in-Match.is c.pair.result
+          c.pair.ensures;
+      refused = refused_by old new c.args.command.now asked c.in-Match.is c.pair.result
+          c.pair.ensures;
+      in_step = c.requires.in_step;
+      stamps = same_stamps _ _ refl;
+    }
+
 pub returns-in-Tie : goal.returns-in-Tie
 returns-in-Tie g c =
     let w = (watch-value g.row.B g.B.Observer g.B.Observer-dict g.B.Destruct-dict).it in
