@@ -1,7 +1,7 @@
 -- What a listing of the base says.
 use Rattle.std.proofs.Common.{◌≡◌, ℕ, ◌≤◌, Bool, true, false, cond, List, [], ◌∷◌, ◌++◌, map}
 use Rattle.std.proofs.Common.{filter, length, refl, sym, ap, Option, None, ◌∙◌, arith}
-use Rattle.std.specs.Prelude.{◌==◌, ◌||◌, Ok}
+use Rattle.std.specs.Prelude.{◌==◌, Ok}
 use Rattle.std.specs.List.{flat_map}
 use Rattle.std.specs.Option.{option_or, option_map_or}
 use Rattle.std.proofs.lemmas.Bool.{le-leb}
@@ -29,7 +29,8 @@ use Rattle.plain_world.specs.World.{World, View, label_of}
 use Rattle.plain_world.specs.Demands as demands
 use Rattle.plain_world.specs.Refusals.{breach, above_limits, unless}
 use Rattle.plain_world.specs.Views as views
-use Rattle.plain_world.specs.Views.{tower_of, layers_up_to, layer_of, values_of, shown_by, origin_label}
+use Rattle.plain_world.specs.Views.{tower_of, layers_up_to, layer_of, values_of, shown_by}
+use Rattle.plain_world.specs.Views.{origin_label}
 use Rattle.desk_world.specs.Faults.{Answers}
 use Rattle.desk_world.specs.Lines.{node_line, arc_line}
 

@@ -27,7 +27,8 @@ use Rattle.tower_numbers.proofs.Ranges.{none_under}
 use Rattle.view_numbers.specs.Breaches.{IsFirst}
 use Rattle.desk_world.specs.AskedBounds.{map_demands, given_on_arcs}
 use Rattle.desk_world.specs.Faults.{Is, MeetsAll}
-use Rattle.desk_world.proofs.AskedViews.{no_arc, value_on}
+use Rattle.desk_world.proofs.AskedViews.{no_arc}
+use Rattle.desk_world.proofs.AskedInts.{value_on}
 use Rattle.desk_world.proofs.Demanded.{fault_of}
 use Rattle.desk_world.proofs.DemandParts.{joined, fault_at, NoneUntil, stops, all_met}
 use Rattle.desk_world.proofs.DemandParts.{part_met, met_next, WhenMet, when_met}

@@ -28,7 +28,7 @@ use Rattle.flow_replies.proofs.SameCuts.{BoundsAgree, feasible_alike, barrier_al
 use Rattle.tower_numbers.proofs.Firsts.{at_mapped}
 use Rattle.desk_world.specs.AskedBounds.{AsksBounds, given_on_arcs, given_at_nodes}
 use Rattle.desk_world.specs.declared.asked_bounds.AskedBounds.{AskedBounds}
-use Rattle.desk_world.proofs.AskedViews.{value_on}
+use Rattle.desk_world.proofs.AskedInts.{value_on}
 use Rattle.desk_world.proofs.Demanded.{fault_of}
 
 -- ---- bounds by maps that may be given

@@ -2,10 +2,9 @@
 use Rattle.std.proofs.Common.{◌≡◌, ℕ, Bool, true, false, cond, List, [], ◌∷◌, map, Some}
 use Rattle.std.proofs.Common.{None}
 use Rattle.std.proofs.Common.{refl, sym, ap, ◌∙◌, inl, inr}
-use Rattle.std.specs.Prelude.{◌==◌, ◌||◌, nat_le}
-use Rattle.std.specs.Cmp.{nat_cmp_total, both_ways}
+use Rattle.std.specs.Prelude.{◌==◌, nat_le}
+use Rattle.std.specs.Cmp.{both_ways}
 use Rattle.std.specs.FinMap as fin
-use Rattle.std.specs.Ordering.{nat_cmp}
 use Rattle.std.proofs.lemmas.Bool.{cases_eq, eq-eqb, ne_eqb}
 use Rattle.base_items.specs.declared.items.Fact.{Fact}
 use Rattle.base_items.specs.declared.items.ItemSort.{ItemSort}

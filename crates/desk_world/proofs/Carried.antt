@@ -35,7 +35,7 @@ use Rattle.desk_world.specs.Derived.{AreDerived}
 use Rattle.desk_world.specs.KeptViews.{AreKept}
 use Rattle.desk_world.specs.Looks.{Look, look_in, seen_at, room_at}
 use Rattle.desk_world.specs.Plain.{seat_sort, tables_of, world_seen}
-use Rattle.desk_world.proofs.Following.{AreStood, look_hears, world_follows}
+use Rattle.desk_world.proofs.FollowedStep.{AreStood, look_hears, world_follows}
 use Rattle.desk_world.proofs.GuardOrder.{map_role}
 use Rattle.desk_world.proofs.Guarded.{IsCharged, CanBurn}
 use Rattle.desk_world.proofs.Heard.{room_by, seats_by}

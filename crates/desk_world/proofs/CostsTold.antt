@@ -29,7 +29,7 @@ use Rattle.desk_world.specs.AskedBounds.{AsksBounds, given_on_arcs, given_at_nod
 use Rattle.desk_world.specs.AskedViews.{arc_values}
 use Rattle.desk_world.specs.Faults.{Answers}
 use Rattle.desk_world.specs.declared.asked_bounds.AskedBounds.{AskedBounds}
-use Rattle.desk_world.proofs.AskedViews.{value_on}
+use Rattle.desk_world.proofs.AskedInts.{value_on}
 use Rattle.desk_world.proofs.BoundsTold.{bounds_in, bounds_agree, of_view}
 use Rattle.desk_world.proofs.Demanded.{fault_of}
 use Rattle.desk_world.proofs.Handed.{handed_on}

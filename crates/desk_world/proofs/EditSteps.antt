@@ -19,8 +19,9 @@ use Rattle.plain_world.proofs.StepsKept.{IsSure}
 use Rattle.desk_world.specs.declared.alterations.Edit.{Edit}
 use Rattle.desk_world.specs.declared.alterations.Edit.TheVariants as edits
 use Rattle.desk_world.specs.Edits.{alteration_by, CanEdit}
-use Rattle.desk_world.proofs.Takes.{TakesAll, takes_single, takes_arc_erasure, takes_node_erasure}
-use Rattle.desk_world.proofs.Takes.{takes_clearing, takes_contraction}
+use Rattle.desk_world.proofs.Takes.{TakesAll, takes_single}
+use Rattle.desk_world.proofs.TakesAll.{takes_arc_erasure, takes_node_erasure}
+use Rattle.desk_world.proofs.TakesAll.{takes_clearing, takes_contraction}
 
 -- each of them can be taken
 pub edit_takes : (edit : Edit) (g : Digraph) → IsValid g → CanEdit edit g

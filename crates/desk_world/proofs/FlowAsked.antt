@@ -1,7 +1,7 @@
 -- What a query of a largest flow demands, in parts, and the numbers of its two nodes.
-use Rattle.std.proofs.Common.{◌≡◌, ◌≢◌, ℕ, true, not, List, [], ◌∷◌, length, get_or, refl, sym, ap}
+use Rattle.std.proofs.Common.{◌≡◌, ◌≢◌, ℕ, true, not, List, [], ◌∷◌, get_or, refl, sym, ap}
 use Rattle.std.proofs.Common.{subst, ◌∙◌, Option, Some, None}
-use Rattle.std.specs.Prelude.{IfSome}
+use Rattle.std.specs.Prelude.{IfSome, Result, IsErrAnd}
 use Rattle.std.specs.Str.{bytes_eq}
 use Rattle.std.proofs.lemmas.Bool.{true≢false}
 use Rattle.std.proofs.lemmas.Slice.Eq.{bytes_eq-Decides}
@@ -20,12 +20,14 @@ use Rattle.plain_world.specs.Tables.{Name}
 use Rattle.plain_world.specs.Views.{shown_by, node_named, node_name}
 use Rattle.plain_world.specs.World.{World}
 use Rattle.plain_world.proofs.DemandsMet.{met}
-use Rattle.desk_world.specs.Faults.{Is}
+use Rattle.desk_world.specs.Faults.{Is, MeetsAll}
 use Rattle.desk_world.specs.Values.{HasType}
 use Rattle.desk_world.proofs.Demanded.{fault_of}
-use Rattle.desk_world.proofs.DemandParts.{joined, fault_at, NoneUntil, stops, all_met, given_met}
+use Rattle.desk_world.proofs.DemandParts.{joined, fault_at, NoneUntil, stops, all_met, met_next}
+use Rattle.desk_world.proofs.DemandParts.{one_met, one_not_met, given_met}
 use Rattle.desk_world.proofs.FlowsTold.{takes_ints}
-use Rattle.desk_world.proofs.NodeWords.{listed, passes}
+use Rattle.desk_world.proofs.Handed.{handed_on}
+use Rattle.desk_world.proofs.WordsRead.{listed, passes}
 
 -- ---- two nodes
 
@@ -78,25 +80,70 @@ module _ (view cap s t : Name) where
   parts_joined None = refl
   parts_joined (Some map) = refl
 
-  module _ (world : World) where
-    -- the first part that isn't met refuses
-    pub flow_stops : (into : Option Name) (k : ℕ) (fault : StepFault)
-        → NoneUntil world (flow_parts into) k → Is (fault_at world (flow_parts into) k) fault
-        → Is (fault_of world (flow_demands into)) fault
-    flow_stops into k fault none is =
-        subst (λ ds. Is (fault_of world ds) fault) (sym (parts_joined into))
-        (stops world (flow_parts into) k fault none is)
+  module _ (world : World) (into : Option Name) where
+    abbrev parts : List (List Demand)
+    parts = flow_parts into
 
-    pub flow_met : (into : Option Name)
-        → NoneUntil world (flow_parts into) (length (flow_parts into))
+    -- ---- the questions that are met, in their order
+
+    pub names_met : breach world (demands.There demands.Views view) ≡ None
+        → breach world (demands.There (demands.Maps Arc) cap) ≡ None
+        → breach world (demands.There (demands.NodesOf view) s) ≡ None
+        → breach world (demands.There (demands.NodesOf view) t) ≡ None → NoneUntil world parts 4
+    names_met seen there from to =
+        let first : NoneUntil world parts 2 = (
+          one_met world (demands.There demands.Views view) seen,
+          (one_met world (demands.There (demands.Maps Arc) cap) there, tt),
+        ) in
+        met_next world parts 3 (met_next world parts 2 first
+        (one_met world (demands.There (demands.NodesOf view) s) from))
+        (one_met world (demands.There (demands.NodesOf view) t) to)
+
+    pub maps_met : NoneUntil world parts 4
+        → fault_of world (given (demands.There (demands.Maps Arc)) into) ≡ None
+        → breach world (demands.HasType Arc Ints cap) ≡ None
+        → fault_of world (given (demands.TakesFlow view) into) ≡ None → NoneUntil world parts 7
+    maps_met names there typed takes =
+        met_next world parts 6 (met_next world parts 5 (met_next world parts 4 names there)
+        (one_met world (demands.HasType Arc Ints cap) typed)) takes
+
+    pub nodes_met : NoneUntil world parts 7 → breach world (demands.IsSmall view) ≡ None
+        → breach world (demands.Differ s t) ≡ None → NoneUntil world parts 9
+    nodes_met maps small differ =
+        met_next world parts 8 (met_next world parts 7 maps
+        (one_met world (demands.IsSmall view) small)) (one_met world (demands.Differ s t) differ)
+
+    -- ---- all of them are met, or the first that isn't refuses
+
+    pub flow_met : NoneUntil world parts 9 → breach world (demands.ArcsInRange view cap) ≡ None
+        → breach world (demands.ArcsAtLeast view 0 cap) ≡ None
         → fault_of world (flow_demands into) ≡ None
-    flow_met into none =
-        ap (fault_of world) (parts_joined into) ∙ all_met world (flow_parts into) none
+    flow_met nodes within least =
+        ap (fault_of world) (parts_joined into)
+        ∙ all_met world parts (met_next world parts 10 (met_next world parts 9 nodes
+        (one_met world (demands.ArcsInRange view cap) within))
+        (one_met world (demands.ArcsAtLeast view 0 cap) least))
 
-    -- a map that may be given, and takes a flow, has ints
-    pub given_takes : (into : Option Name)
-        → fault_of world (given (demands.TakesFlow view) into) ≡ None
-        → IfSome into (λ map. HasType world Arc map Ints)
-    given_takes None none = tt
-    given_takes (Some map) none =
-        takes_ints world view map (given_met world (demands.TakesFlow view) (Some map) none)
+    module _ {X : Type 0} (result : Result X StepFault) (fault : StepFault)
+        (handed : IsErrAnd result (λ e. e ≡ fault)) where
+      pub part_unmet : (k : ℕ) → NoneUntil world parts k → Is (fault_at world parts k) fault
+          → MeetsAll world (flow_demands into) result
+      part_unmet k none is =
+          handed_on (MeetsAll world (flow_demands into)) result fault handed
+          (subst (λ ds. Is (fault_of world ds) fault) (sym (parts_joined into))
+          (stops world parts k fault none is))
+
+      -- where its part is a single demand
+      pub flow_unmet : (d : Demand) (k : ℕ) → NoneUntil world parts k
+          → fault_at world parts k ≡ fault_of world (d ∷ []) → Is (breach world d) fault
+          → MeetsAll world (flow_demands into) result
+      flow_unmet d k none part is =
+          part_unmet k none (subst (λ o. Is o fault) (sym part) (one_not_met world d fault is))
+
+  -- a map that may be given, and takes a flow, has ints
+  pub given_takes : (world : World) (into : Option Name)
+      → fault_of world (given (demands.TakesFlow view) into) ≡ None
+      → IfSome into (λ map. HasType world Arc map Ints)
+  given_takes world None none = tt
+  given_takes world (Some map) none =
+      takes_ints world view map (given_met world (demands.TakesFlow view) (Some map) none)

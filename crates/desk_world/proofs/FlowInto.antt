@@ -23,7 +23,7 @@ use Rattle.desk_world.specs.Flows.{with_ints, comes_from, flow_by}
 use Rattle.desk_world.specs.MapNumbers.{number_of}
 use Rattle.desk_world.specs.declared.asked_views.AskedView.{AskedView}
 use Rattle.desk_world.proofs.AskedViews.{arcs_live, origin_lives}
-use Rattle.desk_world.proofs.FlowWrites.{by_position}
+use Rattle.desk_world.proofs.FlowSpread.{by_position}
 use Rattle.desk_world.proofs.ViewListed.{same_origin}
 
 -- what holds at each place of a list holds of all of it

@@ -44,7 +44,7 @@ use Rattle.desk_world.specs.MapNumbers.{numbered_tower}
 use Rattle.desk_world.specs.NumberLaws.{one_type}
 use Rattle.desk_world.specs.Values.{HasType}
 use Rattle.desk_world.specs.declared.asked_flows.AskedFlow.{AskedFlow}
-use Rattle.desk_world.proofs.AskedViews.{value_on}
+use Rattle.desk_world.proofs.AskedInts.{value_on}
 use Rattle.desk_world.proofs.Demanded.{fault_of}
 
 -- ---- maps that take a flow

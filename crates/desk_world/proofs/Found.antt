@@ -16,7 +16,8 @@ use Rattle.observe_core.proofs.ItemLemmas.{and_left, and_right, rises-lacks}
 use Rattle.index_maps.specs.RefViews.{HasNoLabel}
 use Rattle.plain_world.specs.Tables.{Name}
 use Rattle.desk_world.specs.Columns.{column, labelled}
-use Rattle.desk_world.proofs.Columns.{value_at, name_at, get_column, get_labelled, past}
+use Rattle.desk_world.proofs.Columns.{value_at, get_column}
+use Rattle.desk_world.proofs.LabelColumns.{name_at, get_labelled, past}
 
 -- ---- values
 

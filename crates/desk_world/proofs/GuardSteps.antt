@@ -43,7 +43,7 @@ use Rattle.desk_world.specs.InStep.{AreInStep, AreBoxes, IsBox}
 use Rattle.desk_world.specs.Plain.{plain_of, kinds_of, word_of, guard_by}
 use Rattle.desk_world.proofs.BoxKinds.{word_law, armed_guard, same_kind}
 use Rattle.desk_world.proofs.Boxes.{all_at, all_removed, first_kind, first_gone}
-use Rattle.desk_world.proofs.Claimed.{look_came}
+use Rattle.desk_world.proofs.ClaimsCame.{look_came}
 use Rattle.desk_world.proofs.Demanded.{refused, met, not_met}
 use Rattle.desk_world.proofs.GuardTables.{with_guards}
 use Rattle.desk_world.proofs.GuardsComing.{guarded, more_in_step, guard_came}

@@ -22,7 +22,8 @@ use Rattle.desk_world.specs.InStep.{AreInStep, AreSeated, AreBoxes}
 use Rattle.desk_world.specs.Looks.{Look, look_in, looked}
 use Rattle.desk_world.specs.Plain.{plain_of, look_of, kinds_of, guard_seen, guard_by, world_seen}
 use Rattle.desk_world.proofs.Changing.{looked_more, looked_less}
-use Rattle.desk_world.proofs.Claimed.{look_came, agree_more, seats_more, agree_less, seats_less}
+use Rattle.desk_world.proofs.ClaimsCame.{look_came, agree_more, seats_more}
+use Rattle.desk_world.proofs.ClaimsGone.{agree_less, seats_less}
 use Rattle.desk_world.proofs.Claimed.{apart_all}
 use Rattle.desk_world.proofs.GuardOrder.{guard_comes}
 use Rattle.desk_world.proofs.GuardTables.{ahead, after, claims_with, claims_are, claims_midst}

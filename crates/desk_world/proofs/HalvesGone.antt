@@ -13,7 +13,8 @@ use Rattle.plain_world.specs.Tables.{Name, Named, under}
 use Rattle.desk_world.specs.Claims.{Claim, ClaimsDiffer, Half, claim, snap_claims}
 use Rattle.desk_world.specs.InStep.{AreSeated}
 use Rattle.desk_world.specs.Looks.{look_in}
-use Rattle.desk_world.proofs.Claimed.{agrees, all_less, apart_all, differ_less, seats_less}
+use Rattle.desk_world.proofs.Claimed.{all_less, apart_all, differ_less}
+use Rattle.desk_world.proofs.ClaimsGone.{agrees, seats_less}
 use Rattle.desk_world.proofs.NamedRows.{Stands}
 use Rattle.desk_world.proofs.Relabelled.{Agrees}
 use Rattle.desk_world.proofs.Seated.{all_and, all_both, all_left, all_right, all_so}

@@ -28,7 +28,7 @@ use Rattle.desk_world.specs.Looks.{look_in}
 use Rattle.desk_world.specs.Seating.{Comes, Puts}
 use Rattle.desk_world.proofs.AsMade.{as_values}
 use Rattle.desk_world.proofs.BuiltMaps.{same_place, news_same}
-use Rattle.desk_world.proofs.Claimed.{comes_attached, look_comes, look_stays}
+use Rattle.desk_world.proofs.ClaimsCame.{comes_attached, look_comes, look_stays}
 use Rattle.desk_world.proofs.IndexFilled.{filled, fill_starts, fill_passes, fill_steps, fill_ends}
 use Rattle.desk_world.proofs.IndexFilled.{ids_below, ids_apart, one_value}
 use Rattle.desk_world.proofs.LiveEntries.{stands_in}

@@ -29,7 +29,7 @@ use Rattle.desk_world.specs.Looks.{Look, look_in}
 use Rattle.desk_world.specs.Plain.{plain_of, world_seen, kinds_of}
 use Rattle.desk_world.proofs.Altered.{carries_in_step, left_alike}
 use Rattle.desk_world.proofs.Carried.{Carries, MayBurn, carries_on, step_follows}
-use Rattle.desk_world.proofs.Following.{look_hears}
+use Rattle.desk_world.proofs.FollowedStep.{look_hears}
 use Rattle.desk_world.proofs.Hearing.{hears_in, made_hear}
 use Rattle.desk_world.proofs.Remaining.{plays_on}
 use Rattle.desk_world.proofs.Seated.{all_so}

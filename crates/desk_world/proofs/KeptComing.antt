@@ -27,7 +27,7 @@ use Rattle.desk_world.specs.declared.tables.KeptMaps.{KeptMaps}
 use Rattle.desk_world.specs.Claims as claims
 use Rattle.desk_world.specs.Claims.{Plays}
 use Rattle.desk_world.specs.Placing.{SomeSeatsCome, own_role}
-use Rattle.desk_world.proofs.Claimed.{comes_attached}
+use Rattle.desk_world.proofs.ClaimsCame.{comes_attached}
 use Rattle.desk_world.proofs.DerivedMaps.{IsUntold}
 use Rattle.desk_world.proofs.MapsComing.{built_plays}
 

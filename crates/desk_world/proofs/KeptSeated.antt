@@ -1,5 +1,5 @@
 -- The seats of a view that is kept came, and all their items were placed.
-use Rattle.std.proofs.Common.{◌≡◌, ℕ, List, [], ◌∷◌, ◌++◌, refl, sym, ap, subst, Option, Some, None}
+use Rattle.std.proofs.Common.{◌≡◌, ℕ, [], ◌∷◌, ◌++◌, refl, sym, ap, subst, Option, Some, None}
 use Rattle.std.proofs.Common.{◌∙◌}
 use Rattle.std.proofs.lemmas.Option.{same_Some}
 use Rattle.base_items.specs.declared.items.ItemSort.{ItemSort}
@@ -22,8 +22,8 @@ use Rattle.desk_world.specs.Looks.{look_in}
 use Rattle.desk_world.specs.Placing.{SitsGiven, SitMaps, SeatsCome, Keeps, own_role, marks_by}
 use Rattle.desk_world.specs.Placing.{all_marked}
 use Rattle.desk_world.specs.Seating.{Comes, Puts}
-use Rattle.desk_world.proofs.Claimed.{look_comes, look_stays}
-use Rattle.desk_world.proofs.Following.{seat_of}
+use Rattle.desk_world.proofs.ClaimsCame.{look_comes, look_stays}
+use Rattle.desk_world.proofs.FollowedStep.{seat_of}
 use Rattle.desk_world.proofs.KeptAgree.{SameAt, SameMaps, present_same}
 use Rattle.desk_world.proofs.PlacedAll.{holds_marked, maps_same, maps_sit, placed_made, sit_still}
 use Rattle.desk_world.proofs.PlacedItems.{each_marked}

@@ -28,7 +28,7 @@ use Rattle.plain_views.specs.Shown.{base_shown}
 use Rattle.plain_views.specs.Towers as towers
 use Rattle.plain_world.specs.Demands as demands
 use Rattle.plain_world.specs.Demands.{is_there}
-use Rattle.plain_world.specs.Tables.{Name, Named, under, is_named, entry}
+use Rattle.plain_world.specs.Tables.{Name, Named, is_named, entry}
 use Rattle.plain_world.specs.Values.{int_at, bool_at}
 use Rattle.plain_world.specs.Views.{map_of, values_of, shown_by}
 use Rattle.plain_world.specs.World as plain

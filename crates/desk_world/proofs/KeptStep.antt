@@ -26,7 +26,6 @@ use Rattle.kept_walks.specs.Present.{AreMarked, can_grow, can_fall}
 use Rattle.plain_world.specs.Tables.{Named}
 use Rattle.desk_world.specs.declared.tables.ItemTables.{ItemTables}
 use Rattle.desk_world.specs.declared.tables.KeptKeys.{KeptKeys}
-use Rattle.desk_world.specs.declared.tables.MapKind.TheVariants as maps
 use Rattle.desk_world.specs.declared.tables.MapRow.{MapRow}
 use Rattle.desk_world.specs.declared.tables.ViewRow.{ViewRow}
 use Rattle.desk_world.specs.Claims as claims
@@ -39,7 +38,7 @@ use Rattle.desk_world.specs.KeptViews.{views_of}
 use Rattle.desk_world.specs.Looks.{Look, look_in}
 use Rattle.desk_world.specs.Placing.{SitsGiven, SitMaps, own_role}
 use Rattle.desk_world.specs.Plain.{seat_sort}
-use Rattle.desk_world.proofs.Following.{AreStood, reads_follow}
+use Rattle.desk_world.proofs.FollowedStep.{AreStood, reads_follow}
 use Rattle.desk_world.proofs.KeptFollowed.{mark_entry, marks_held, Says, to_marks, of_marks}
 use Rattle.desk_world.proofs.KeptFollowed.{marks_follow, value_of, values_after, with_new}
 use Rattle.desk_world.proofs.KeptFollowed.{value_kept, value_new, Keeps, keeps_same, keeps_fixed}

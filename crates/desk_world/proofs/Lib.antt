@@ -1,5 +1,6 @@
 pub mod ColumnValues
 pub mod Columns
+pub mod LabelColumns
 pub mod Looks
 pub mod Found
 pub mod Seated
@@ -22,8 +23,10 @@ pub mod Stood
 pub mod Guarded
 pub mod Hearing
 pub mod Following
+pub mod FollowedStep
 pub mod StillDerived
 pub mod Takes
+pub mod TakesAll
 pub mod Carried
 pub mod Altered
 pub mod Left
@@ -58,6 +61,8 @@ pub mod DocLinks
 pub mod Saved
 pub mod SavedAttributes
 pub mod Claimed
+pub mod ClaimsCame
+pub mod ClaimsGone
 pub mod Putting
 pub mod NamedRows
 pub mod Derived
@@ -68,12 +73,16 @@ pub mod BuiltMaps
 pub mod InOrder
 pub mod Indexed
 pub mod MapsComing
+pub mod MapsGoing
 pub mod IndexFilled
 pub mod IndexMade
 pub mod MapsWritten
+pub mod MapFollows
 pub mod Reroled
 pub mod Retyped
+pub mod RetypedWorld
 pub mod IndexesWritten
+pub mod IndexFollows
 pub mod SeatWrites
 pub mod MapCalls
 pub mod MapsMade
@@ -84,6 +93,7 @@ pub mod MapWrites
 pub mod WriteCalls
 pub mod Respelled
 pub mod RetypeSteps
+pub mod RetypeRows
 pub mod MapRefusals
 pub mod RowTold
 pub mod Readied
@@ -149,6 +159,7 @@ pub mod Layered
 pub mod ViewCommands
 pub mod NumberRows
 pub mod NodeWords
+pub mod WordsRead
 pub mod NodesRaised
 pub mod MapNumbers
 pub mod NumberedMaps
@@ -156,6 +167,7 @@ pub mod NumberedRows
 pub mod NumberedPartners
 pub mod ShownLive
 pub mod AskedViews
+pub mod AskedInts
 pub mod AskedCycles
 pub mod PathsTold
 pub mod ViewListed
@@ -167,13 +179,17 @@ pub mod KeptStep
 pub mod KeptTables
 pub mod KeptTowers
 pub mod KeptUnplaced
+pub mod KeptApart
 pub mod KeptListed
 pub mod KeptRows
 pub mod KeptGone
+pub mod KeptLeaves
 pub mod KeptNew
+pub mod KeptJoins
 pub mod KeepCommands
 pub mod PlacedItems
 pub mod Placings
+pub mod PlacedWalk
 pub mod PlaceCalls
 pub mod ViewsComing
 pub mod KeepMaps
@@ -181,6 +197,7 @@ pub mod PlacedAll
 pub mod KeptComing
 pub mod KeptSeated
 pub mod FlowWrites
+pub mod FlowSpread
 pub mod FlowLines
 pub mod PairsTold
 pub mod FlowInto

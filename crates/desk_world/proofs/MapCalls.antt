@@ -27,9 +27,10 @@ use Rattle.desk_world.specs.Seating.{Comes}
 use Rattle.desk_world.proofs.Indexed.{unread_rows}
 use Rattle.desk_world.proofs.MapTables.{with_rows, table_first, table_twice, pool_stays}
 use Rattle.desk_world.proofs.MapTables.{same_in_step, same_plain}
-use Rattle.desk_world.proofs.MapsComing.{more_in_step, map_came, none_in_step, none_gone}
+use Rattle.desk_world.proofs.MapsComing.{more_in_step, map_came}
+use Rattle.desk_world.proofs.MapsGoing.{none_in_step, none_gone}
 use Rattle.desk_world.proofs.KeptTables.{unread_views}
-use Rattle.desk_world.proofs.MapsComing.{less_in_step, map_gone}
+use Rattle.desk_world.proofs.MapsGoing.{less_in_step, map_gone}
 use Rattle.desk_world.proofs.MapsFound.{map_there}
 use Rattle.desk_world.proofs.NamedRows.{stands}
 use Rattle.desk_world.proofs.Unchanged.{still_in_step, plain_still}

@@ -1,5 +1,5 @@
 -- Towers by the numbers of maps show what they show by names, and have the maps that they read.
-use Rattle.std.proofs.Common.{◌≡◌, ℕ, Bool, true, false, cond, List, [], ◌∷◌, map, pos}
+use Rattle.std.proofs.Common.{◌≡◌, ℕ, Bool, true, false, cond, List, [], ◌∷◌, pos}
 use Rattle.std.proofs.Common.{refl, sym, ap, ◌∙◌, Option, None, Some}
 use Rattle.std.specs.Prelude.{option_map, option_and_then, find}
 use Rattle.std.specs.Option.{option_map_or}

@@ -1,5 +1,5 @@
 -- Who reads a map, by the rows of the tables.
-use Rattle.std.proofs.Common.{◌≡◌, true, false, cond, List, [], ◌∷◌, map, refl, sym, ap, Option}
+use Rattle.std.proofs.Common.{◌≡◌, true, false, cond, List, [], ◌∷◌, refl, sym, ap, Option}
 use Rattle.std.proofs.Common.{Some, None, ◌∙◌}
 use Rattle.std.specs.Prelude.{option_map, find}
 use Rattle.std.specs.List.{cons_option}
@@ -7,7 +7,6 @@ use Rattle.std.specs.Option.{option_or}
 use Rattle.base_items.specs.declared.items.ItemSort.{ItemSort}
 use Rattle.report_text.specs.declared.faults.Fault.TheVariants as faults
 use Rattle.plain_digraph.specs.Lists.{AllOf}
-use Rattle.observe_core.specs.Held as held
 use Rattle.observe_core.specs.Seen.{Watched}
 use Rattle.plain_world.specs.Demands as demand
 use Rattle.plain_world.specs.Refusals as refusals
@@ -15,8 +14,6 @@ use Rattle.plain_world.specs.Refusals.{breach, reader_of}
 use Rattle.plain_world.specs.Tables.{Name, Named, under, oldest}
 use Rattle.plain_world.specs.Views.{reads}
 use Rattle.plain_world.specs.World as plain
-use Rattle.desk_world.specs.declared.tables.MapKind.{MapKind}
-use Rattle.desk_world.specs.declared.tables.MapKind.TheVariants as maps
 use Rattle.desk_world.specs.declared.tables.MapRow.{MapRow}
 use Rattle.desk_world.specs.declared.tables.ViewRow.{ViewRow}
 use Rattle.desk_world.specs.declared.world.World.{World}

@@ -30,8 +30,9 @@ use Rattle.desk_world.specs.Values.{HasType, HasItem, kind_for, type_for, put_at
 use Rattle.desk_world.proofs.IndexesWritten.{all_done, written_unplaced, written_plain}
 use Rattle.desk_world.proofs.MapsComing.{for_values}
 use Rattle.desk_world.proofs.MapsFound.{Leads, map_found, map_type, own_sort, type_by}
-use Rattle.desk_world.proofs.MapsWritten.{AreKept, Shows, own_role, bools_with, item_held, kept}
-use Rattle.desk_world.proofs.MapsWritten.{rows_begin}
+use Rattle.desk_world.proofs.MapsWritten.{Shows, own_role, bools_with, item_held}
+use Rattle.desk_world.proofs.MapFollows.{AreKept, kept}
+use Rattle.desk_world.proofs.MapFollows.{rows_begin}
 use Rattle.desk_world.proofs.NamedRows.{Stands, stands}
 
 -- a map that has values of the type is of its kind

@@ -30,7 +30,7 @@ use Rattle.desk_world.specs.MapTables.{with_table}
 use Rattle.desk_world.specs.Plain.{plain_of, look_of, seat_sort, held_by}
 use Rattle.desk_world.specs.Seating.{Comes}
 use Rattle.desk_world.specs.Values.{kind_for}
-use Rattle.desk_world.proofs.Claimed.{comes_attached, look_comes, look_stays}
+use Rattle.desk_world.proofs.ClaimsCame.{comes_attached, look_comes, look_stays}
 use Rattle.desk_world.proofs.MapCalls.{Came, came_whole, rows_of, room_keeps}
 use Rattle.desk_world.proofs.MapTables.{table_first}
 use Rattle.desk_world.proofs.MapsComing.{built_plays, held_new}

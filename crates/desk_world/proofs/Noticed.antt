@@ -40,7 +40,8 @@ use Rattle.desk_world.specs.Columns.{labels_of, column, labelled}
 use Rattle.desk_world.specs.Plain.{held_by}
 use Rattle.desk_world.specs.Looks.{seen_at}
 use Rattle.desk_world.specs.InStep.{Differ}
-use Rattle.desk_world.proofs.Columns.{column_with, column_without, labels_with, labels_without}
+use Rattle.desk_world.proofs.Columns.{column_with, column_without}
+use Rattle.desk_world.proofs.LabelColumns.{labels_with, labels_without}
 use Rattle.desk_world.proofs.Looks.{seen_heard, seen_lost, after_loss}
 use Rattle.desk_world.proofs.AsMade.{as_values}
 

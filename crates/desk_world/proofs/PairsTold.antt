@@ -1,5 +1,5 @@
 -- What a query of pairs tells, from the pairing of a view by number.
-use Rattle.std.proofs.Common.{◌≡◌, ℕ, ◌<◌, Bool, true, false, not, cond, List, [], ◌∷◌, map, filter}
+use Rattle.std.proofs.Common.{◌≡◌, ℕ, ◌<◌, Bool, false, not, cond, List, [], ◌∷◌, map, filter}
 use Rattle.std.proofs.Common.{length, All, refl, sym, ap, subst, ◌∙◌, Option, None, Some, ◌+◌}
 use Rattle.std.proofs.Common.{arith}
 use Rattle.std.specs.Prelude.{find, option_map}
@@ -15,18 +15,17 @@ use Rattle.report_text.specs.declared.faults.Fault.TheVariants as faults
 use Rattle.report_text.specs.declared.faults.StepFault.{StepFault}
 use Rattle.report_text.specs.declared.replies.PairLine.{PairLine}
 use Rattle.report_text.specs.declared.replies.Reply.TheVariants as replies
-use Rattle.plain_certificates.specs.Numbered.{Numbered, EndsAreNodes}
-use Rattle.plain_certificates.specs.Numbering.{numbered, node_at, arc_at}
-use Rattle.plain_certificates.specs.Pairings.{IsBipartite, IsPairing}
+use Rattle.plain_certificates.specs.Numbered.{Numbered}
+use Rattle.plain_certificates.specs.Numbering.{arc_at}
+use Rattle.plain_certificates.specs.Pairings.{IsPairing}
 use Rattle.plain_certificates.specs.Tables.{at}
 use Rattle.plain_certificates.proofs.Numbering.{numbered_keeps_ends, numbered_has_ends}
-use Rattle.plain_digraph.specs.Valid.{IsValid}
 use Rattle.plain_views.specs.Shown.{Shown, ShownArc, IsShown}
 use Rattle.plain_views.proofs.Towered.{tower_is_shown}
 use Rattle.plain_world.specs.declared.answers.Answer.TheVariants.{Answered}
 use Rattle.plain_world.specs.Demands as demands
 use Rattle.plain_world.specs.Demands.{Demand, pair_demands}
-use Rattle.plain_world.specs.Queries.{FindsPairing, graph, on_left, pair_line, pair_lines, names_in}
+use Rattle.plain_world.specs.Queries.{FindsPairing, graph, on_left, pair_line, names_in}
 use Rattle.plain_world.specs.Queries.{name_of_arc}
 use Rattle.plain_world.specs.Refusals.{breach, is_one_sided}
 use Rattle.plain_world.specs.Steps.{Step}

@@ -33,7 +33,7 @@ use Rattle.desk_world.specs.AskedViews.{Asks, arc_values, IsBelow}
 use Rattle.desk_world.specs.Faults.{Is, Answers}
 use Rattle.desk_world.specs.declared.asked_paths.AskedPaths.{AskedPaths}
 use Rattle.desk_world.specs.declared.asked_views.AskedView.{AskedView}
-use Rattle.desk_world.proofs.AskedViews.{value_on, number_is, number_below}
+use Rattle.desk_world.proofs.AskedInts.{value_on, number_is, number_below}
 use Rattle.desk_world.proofs.Demanded.{fault_of, refused, not_met}
 use Rattle.desk_world.proofs.ViewCommands.{first_not_met, second_not_met, both_lists_met}
 use Rattle.tower_numbers.proofs.Along.{cycle_members}

@@ -37,7 +37,7 @@ use Rattle.desk_world.proofs.AsMade.{as_values}
 use Rattle.alter_graph.proofs.Taking.{steady_in}
 use Rattle.desk_world.proofs.Carried.{seen_sound}
 use Rattle.desk_world.proofs.Found.{has_value}
-use Rattle.desk_world.proofs.Following.{seat_of}
+use Rattle.desk_world.proofs.FollowedStep.{seat_of}
 use Rattle.desk_world.proofs.KeptFollowed.{as_kept}
 use Rattle.desk_world.proofs.LiveEntries.{stands_in, entry_in}
 use Rattle.desk_world.proofs.Seated.{seen_there, plays_seen}

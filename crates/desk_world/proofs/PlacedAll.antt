@@ -26,8 +26,8 @@ use Rattle.alter_graph.specs.Verdict.{is_sort}
 use Rattle.alter_graph.proofs.Listing.{all_in}
 use Rattle.kept_views.specs.declared.items.Marks.{Marks}
 use Rattle.kept_views.specs.ItemViews.{with_marks, marked_set}
-use Rattle.desk_seats.specs.Contents.{holding, marked_in, marked_held, role_in, role_held, shows_all}
-use Rattle.desk_seats.specs.Contents.{all_held}
+use Rattle.desk_seats.specs.Contents.{holding, marked_in, marked_held, role_in, role_held}
+use Rattle.desk_seats.specs.Contents.{shows_all, all_held}
 use Rattle.desk_world.specs.declared.tables.KeptKeys.{KeptKeys}
 use Rattle.desk_world.specs.declared.tables.KeptMaps.{KeptMaps}
 use Rattle.desk_world.specs.Claims as claims
@@ -37,7 +37,8 @@ use Rattle.desk_world.specs.Looks.{look_in, seen_at}
 use Rattle.desk_world.specs.Placing.{SitsGiven, SitMaps, own_key, own_role, marks_by, marked_with}
 use Rattle.desk_world.specs.Placing.{all_marked}
 use Rattle.desk_world.specs.Seating.{Puts}
-use Rattle.desk_world.proofs.Following.{chain_here, same_sort, seat_of}
+use Rattle.desk_world.proofs.Following.{chain_here, same_sort}
+use Rattle.desk_world.proofs.FollowedStep.{seat_of}
 use Rattle.desk_world.proofs.IndexFilled.{map_all, passed}
 use Rattle.desk_world.proofs.KeptAgree.{SameAt, SameMaps, present_same}
 use Rattle.desk_world.proofs.KeptFollowed.{AreKeptItems, as_kept}

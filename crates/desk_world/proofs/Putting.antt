@@ -20,7 +20,7 @@ use Rattle.desk_world.specs.Claims.{Claim, Role, Plays}
 use Rattle.desk_world.specs.InStep.{AreSeated}
 use Rattle.desk_world.specs.Looks.{look_in}
 use Rattle.desk_world.specs.Seating.{Comes, Puts}
-use Rattle.desk_world.proofs.Claimed.{look_comes}
+use Rattle.desk_world.proofs.ClaimsCame.{look_comes}
 use Rattle.desk_world.proofs.Following.{chain_here}
 use Rattle.desk_world.proofs.Relabelled.{Agrees}
 use Rattle.desk_world.proofs.Seated.{all_so}

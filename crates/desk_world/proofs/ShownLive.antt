@@ -1,5 +1,5 @@
 -- What a tower shows comes from live items, and so does what is listed of it.
-use Rattle.std.proofs.Common.{◌≡◌, ℕ, Bool, true, false, cond, not, List, [], ◌∷◌, ◌++◌, map}
+use Rattle.std.proofs.Common.{◌≡◌, ℕ, Bool, true, false, cond, not, List, [], ◌∷◌, map}
 use Rattle.std.proofs.Common.{refl, sym, ap, subst, ◌∙◌, Some, length, take, ◌≤◌}
 use Rattle.std.specs.Prelude.{◌==◌, ◌||◌, ◌&&◌, filter}
 use Rattle.std.specs.List.{flat_map, list_any}
@@ -27,7 +27,7 @@ use Rattle.plain_world.specs.World.{World}
 use Rattle.desk_world.specs.Naming.{ComesFromLive, ShowsLive, node_called}
 use Rattle.desk_world.specs.NodeWords.{node_called_so}
 use Rattle.desk_world.specs.Shown.{arcs_at}
-use Rattle.desk_world.proofs.NodeWords.{listed}
+use Rattle.desk_world.proofs.WordsRead.{listed}
 use Rattle.desk_world.proofs.Seated.{all_both}
 
 -- ---- lists

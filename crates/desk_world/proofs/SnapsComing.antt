@@ -33,7 +33,7 @@ use Rattle.desk_world.specs.Looks.{Look, look_in, looked}
 use Rattle.desk_world.specs.Plain.{plain_of, look_of, kinds_of, snapshot_seen, world_seen}
 use Rattle.desk_world.specs.Seating.{Comes}
 use Rattle.desk_world.proofs.Changing.{looked_more}
-use Rattle.desk_world.proofs.Claimed.{look_comes, agree_comes, seats_comes}
+use Rattle.desk_world.proofs.ClaimsCame.{look_comes, agree_comes, seats_comes}
 use Rattle.desk_world.proofs.GuardOrder.{map_comes}
 use Rattle.desk_world.proofs.Relabelled.{Agrees, snapshots_agree}
 use Rattle.desk_world.proofs.Seated.{all_left, all_right, all_so, all_and}

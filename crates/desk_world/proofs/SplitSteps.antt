@@ -31,7 +31,8 @@ use Rattle.plain_world.proofs.StepsKept.{IsSure}
 use Rattle.desk_world.specs.declared.alterations.Split.{Split}
 use Rattle.desk_world.specs.declared.alterations.Split.TheVariants as splits
 use Rattle.desk_world.specs.Edits.{split_by, CanSplit}
-use Rattle.desk_world.proofs.Takes.{TakesAll, takes_arc_split, takes_node_split}
+use Rattle.desk_world.proofs.Takes.{TakesAll}
+use Rattle.desk_world.proofs.TakesAll.{takes_arc_split, takes_node_split}
 
 -- ---- a new item
 

@@ -24,7 +24,7 @@ use Rattle.desk_world.specs.Derived.{trues_seen, ties_at}
 use Rattle.desk_world.specs.InStep.{Differ, keys_in}
 use Rattle.desk_world.specs.Looks.{look_in}
 use Rattle.desk_world.specs.Plain.{seat_sort}
-use Rattle.desk_world.proofs.Following.{AreStood, reads_follow, ties_follow}
+use Rattle.desk_world.proofs.FollowedStep.{AreStood, reads_follow, ties_follow}
 use Rattle.desk_world.proofs.MapsFound.{of_entry}
 use Rattle.desk_world.proofs.Noticed.{entries_after, bools_follow, trues_follow}
 use Rattle.desk_world.proofs.TiesAfter.{all_after}

@@ -1,6 +1,6 @@
 -- The commands on views, from the calls of which they consist.
-use Rattle.std.proofs.Common.{◌≡◌, ◌+◌, ◌^◌, ◌≤◌, Bool, true, false, not, List, [], ◌∷◌, ◌++◌, map}
-use Rattle.std.proofs.Common.{refl, sym, ap, subst, ◌∙◌, Option, None, Some, is_some}
+use Rattle.std.proofs.Common.{◌≡◌, ◌+◌, ◌^◌, ◌≤◌, Bool, true, false, not, List, [], ◌∷◌, ◌++◌}
+use Rattle.std.proofs.Common.{refl, sym, ap, ◌∙◌, Option, None, Some, is_some}
 use Rattle.std.specs.Prelude.{◌||◌, option_map}
 use Rattle.std.specs.Option.{option_or}
 use Rattle.std.specs.Str.{bytes_eq}
@@ -21,7 +21,7 @@ use Rattle.plain_world.specs.Tables.{Name, entry, has_entry, oldest, without_ent
 use Rattle.plain_world.specs.World as plain
 use Rattle.plain_world.specs.Demands as demand
 use Rattle.plain_world.specs.Demands.{Demand, demands, layer_demands}
-use Rattle.plain_world.specs.Refusals.{breach, first_of, unless}
+use Rattle.plain_world.specs.Refusals.{breach, unless}
 use Rattle.plain_world.specs.Steps.{Step}
 use Rattle.plain_world.specs.Valid.{IsWorld}
 use Rattle.plain_world.specs.Views.{is_base}
@@ -83,7 +83,8 @@ module _ (world : plain.World) (name : Name) (layer : LayerWord) (below : Name) 
   own_demands = layer_demands layer (demand.New demand.Views name ∷ [])
 
   -- it is refused since the view below isn't there, or by its layer, or since it would be too deep
-  pub below_refused : (fault : StepFault) → Is (breach world (demand.There demand.Views below)) fault
+  pub below_refused : (fault : StepFault)
+      → Is (breach world (demand.There demand.Views below)) fault
       → RefusedBy world asked world fault
   below_refused fault is =
       refused world asked fault

@@ -1,6 +1,7 @@
 -- What a listing of a view says, from what its tower by numbers shows.
-use Rattle.std.proofs.Common.{◌≡◌, ℕ, true, List, [], ◌∷◌, ◌++◌, map, refl, sym, ap, subst, ◌∙◌, cond}
-use Rattle.std.proofs.Common.{Option, Some, None, is_some}
+use Rattle.std.proofs.Common.{◌≡◌, ℕ, true, List, [], ◌∷◌, ◌++◌, map, refl, sym, ap, subst, ◌∙◌}
+use Rattle.std.proofs.Common.{cond}
+use Rattle.std.proofs.Common.{Option, None, is_some}
 use Rattle.std.specs.Prelude.{codes, find, unwrap_or, IfOk, IfErr, OnOk, Result, Ok, Err}
 use Rattle.std.specs.Str.{bytes_eq}
 use Rattle.std.specs.Option.{option_or}
@@ -13,9 +14,8 @@ use Rattle.report_text.specs.declared.replies.NodeLine.{NodeLine}
 use Rattle.report_text.specs.declared.replies.Reply.TheVariants as replies
 use Rattle.base_items.specs.declared.items.ItemSort.{ItemSort}
 use Rattle.base_items.specs.declared.items.ItemSort.TheVariants.{Node}
-use Rattle.plain_digraph.specs.Digraph.{Digraph}
 use Rattle.plain_views.specs.Adaptors.{is_even, half}
-use Rattle.plain_views.specs.Marks.{node_marks, arc_marks, arc_origin, Origin, FromNode, marked}
+use Rattle.plain_views.specs.Marks.{node_marks, arc_marks, arc_origin, FromNode, marked}
 use Rattle.plain_views.specs.Renaming.{renamed}
 use Rattle.plain_views.specs.Shown.{Shown, ShownArc, arcs_in_order}
 use Rattle.plain_views.specs.Towers as towers
@@ -30,7 +30,7 @@ use Rattle.plain_machine.specs.Built.{RefusedBy}
 use Rattle.view_numbers.specs.Listed.{fact_shown}
 use Rattle.desk_world.specs.Faults.{Answers, Is, MeetsAll}
 use Rattle.desk_world.specs.MapNumbers.{number_of, numbered, numbered_tower}
-use Rattle.desk_world.specs.Naming.{node_called, arc_called, called_node, called_arc, ShowsLive}
+use Rattle.desk_world.specs.Naming.{node_called, arc_called, called_node, called_arc}
 use Rattle.desk_world.specs.NodeWords.{node_called_so}
 use Rattle.desk_world.specs.Shown.{arcs_at, fault_of_size}
 use Rattle.desk_world.proofs.Demanded.{refused, not_met, met}

@@ -33,7 +33,8 @@ use Rattle.desk_world.specs.Plain.{plain_of, look_of, tables_of}
 use Rattle.desk_world.specs.Seating.{Puts}
 use Rattle.desk_world.specs.Values.{HasType, kind_for, type_for, put_at, held_with}
 use Rattle.desk_world.proofs.IndexesWritten.{IsWriting, writing_begins, writing_ends}
-use Rattle.desk_world.proofs.IndexesWritten.{writing_passes, writing_steps, index_sits}
+use Rattle.desk_world.proofs.IndexesWritten.{writing_passes}
+use Rattle.desk_world.proofs.IndexFollows.{writing_steps, index_sits}
 use Rattle.desk_world.proofs.IndexesWritten.{written_unplaced, written_plain}
 use Rattle.desk_world.proofs.MapWrites.{seat_sits, all_kept, all_ahead, value_unplaced}
 use Rattle.desk_world.proofs.MapWrites.{value_written}

@@ -34,7 +34,7 @@ use Rattle.desk_world.specs.KeptViews.{AreKept}
 use Rattle.desk_world.specs.InStep.{AreInStep, AreSeated}
 use Rattle.desk_world.specs.Looks.{Look, look_in}
 use Rattle.desk_world.specs.Plain.{plain_of, look_of, tables_of, labels_seen, world_seen, kinds_of}
-use Rattle.desk_world.proofs.Columns.{labels_swapped}
+use Rattle.desk_world.proofs.LabelColumns.{labels_swapped}
 use Rattle.desk_world.proofs.Derived.{derived_agrees}
 use Rattle.desk_world.proofs.Labelled.{HasLabels}
 use Rattle.desk_world.proofs.Relabelled.{one_label, maps_elsewhere, labels_elsewhere, Agrees}

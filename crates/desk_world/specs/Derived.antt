@@ -64,8 +64,8 @@ AreOfRows sort table ties =
 
 -- each index has what its map has, and each tie is that of an attribute. An attribute whose tie has
 -- ended may keep its row, which then leads to nothing.
-pub record AreDerived (look : Look) (nodes arcs : ItemTables) (attributes : List (Named AttributeRow))
-    : Type 0 where
+pub record AreDerived (look : Look) (nodes arcs : ItemTables)
+    (attributes : List (Named AttributeRow)) : Type 0 where
   pub node_indexes : AreIndexed (look sorts.Node) nodes.maps.rows
   pub arc_indexes : AreIndexed (look sorts.Arc) arcs.maps.rows
   pub numbered : AreNumbered 0 attributes

@@ -18,7 +18,8 @@ use Rattle.plain_world.specs.Views.{origin_label}
 module _ {M : Type 0} (world : World) (tower : List (Layer M)) where
   -- the label of the item that it comes from, with its marks
   abbrev pub node_called : ℕ → Name
-  node_called node = marked (label_of world sorts.Node (base_node tower node)) (node_marks tower node)
+  node_called node =
+      marked (label_of world sorts.Node (base_node tower node)) (node_marks tower node)
 
   abbrev pub arc_called : ℕ → Name
   arc_called arc = marked (origin_label world (arc_origin tower arc)) (arc_marks tower arc)

@@ -14,7 +14,7 @@ use Rattle.script_words.specs.declared.commands.MapType.TheVariants as types
 use Rattle.plain_world.specs.Tables.{Name, Named, is_named, entry}
 use Rattle.plain_world.specs.World.{World, Held, attached}
 use Rattle.plain_world.specs.Values.{type_of}
-use Rattle.plain_world.specs.Views.{is_type, has_type, map_of}
+use Rattle.plain_world.specs.Views.{is_type, has_type}
 use Rattle.desk_world.specs.MapNumbers.{number_of, map_at, is_of_type, numbers_type, partner_by}
 use Rattle.desk_world.specs.MapNumbers.{numbered}
 

@@ -144,7 +144,8 @@ impl<B: Observer> World<Seat<B>> {
         requires met { first_of (map (breach (plain_of ⟦<Seat<B> as Observer>⟧.watch self.old))
             (split_demands label arc_label)) ≡ None }
         requires room { 1 ≤ room_for_labels ⟦<Seat<B> as Observer>⟧.watch self.old ItemSort.Node }
-        requires arc_room { 1 ≤ room_for_labels ⟦<Seat<B> as Observer>⟧.watch self.old ItemSort.Arc }
+        requires arc_room { 1
+            ≤ room_for_labels ⟦<Seat<B> as Observer>⟧.watch self.old ItemSort.Arc }
         ensures edits { Edits (plain_of ⟦<Seat<B> as Observer>⟧.watch self.old) (split_demands
             label arc_label)
             (split_by self.old.graph.graph.graph split)

@@ -71,8 +71,8 @@ impl<B: Observer> World<Seat<B>> {
         }
     }
 
-    // Ties a plain attribute to the item whose label its text is. The error is want of memory, or of
-    // a number for the tie: all is then as before.
+    // Ties a plain attribute to the item whose label its text is. The error is want of memory, or
+    // of a number for the tie: all is then as before.
     fn start_tie(&mut self, name: &Text, sort: ItemSort, id: u32) -> Result<(), AllocError>
         requires in_step { IsInStep ⟦<Seat<B> as Observer>⟧.watch self.old }
         requires told { TellsItem ⟦<Seat<B> as Observer>⟧.watch self.old name.now sort id }

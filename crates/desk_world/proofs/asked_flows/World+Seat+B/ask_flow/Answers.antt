@@ -1,17 +1,15 @@
-use Rattle.std.proofs.Common.{◌≡◌, ◌≤ℤ◌, pos, All, None, length, sym, ap, subst, ◌∙◌}
+use Rattle.std.proofs.Common.{◌≡◌, ◌≤ℤ◌, pos, All, None, length, sym, ap, refl, subst, ◌∙◌}
 use Rattle.std.proofs.lemmas.List.{length-map}
 use Rattle.base_items.specs.declared.items.ItemSort.TheVariants.{Arc}
-use Rattle.script_words.specs.declared.commands.Command.TheVariants as commands
 use Rattle.script_words.specs.declared.commands.MapType.TheVariants.{Ints}
 use Rattle.desk_seats.specs.contracts.seat.SeatObserver.TheImpl.{watch-value}
 use Rattle.plain_world.specs.Demands as demands
 use Rattle.plain_world.specs.Refusals.{breach}
-use Rattle.desk_world.specs.Faults.{Is, MeetsAll}
+use Rattle.desk_world.specs.Faults.{Is}
 use Rattle.desk_world.specs.Plain.{plain_of}
-use Rattle.desk_world.proofs.DemandParts.{NoneUntil, one_met, one_not_met}
-use Rattle.desk_world.proofs.FlowAsked.{numbers_apart, flow_parts, flow_stops, flow_met}
-use Rattle.desk_world.proofs.FlowAsked.{given_takes}
-use Rattle.desk_world.proofs.Handed.{handed_on}
+use Rattle.desk_world.proofs.DemandParts.{one_met, met_next}
+use Rattle.desk_world.proofs.FlowAsked.{flow_parts, numbers_apart, names_met, maps_met, nodes_met}
+use Rattle.desk_world.proofs.FlowAsked.{flow_met, part_unmet, flow_unmet, given_takes}
 use Rattle.desk_world.proofs.PathsTold.{lengths_read, place_is, start_read, start_inside}
 use Rattle.desk_world.proofs.asked_flows.World+Seat+B.ask_flow.Goals as goal
 
@@ -24,10 +22,9 @@ returns-in_err-ask_view-clause-meets g c =
     let s = c.args.s.now in
     let t = c.args.t.now in
     let into = c.args.into.now in
-    handed_on (MeetsAll world (demands.demands (commands.MaxFlow view cap s t into)))
-    c.from_residual.result _ c.from_residual.ensures.1
-    (flow_stops view cap s t world into 0 _ tt
-    (one_not_met world (demands.There demands.Views view) _ c.in_err-ask_view.ensures))
+    flow_unmet view cap s t world into c.from_residual.result _
+    c.from_residual.ensures.1 (demands.There demands.Views view) 0 tt refl
+    c.in_err-ask_view.ensures
 
 pub returns-in_err-ask_map-clause-meets : goal.returns-in_err-ask_map-clause-meets
 returns-in_err-ask_map-clause-meets g c =
@@ -38,12 +35,10 @@ returns-in_err-ask_map-clause-meets g c =
     let s = c.args.s.now in
     let t = c.args.t.now in
     let into = c.args.into.now in
-    let none : NoneUntil world (flow_parts view cap s t into) 1 =
-    (one_met world (demands.There demands.Views view) c.in_ok-ask_view.ensures, tt) in
-    handed_on (MeetsAll world (demands.demands (commands.MaxFlow view cap s t into)))
-    c.from_residual-in_err-ask_map.result _ c.from_residual-in_err-ask_map.ensures.1
-    (flow_stops view cap s t world into 1 _ none
-    (one_not_met world (demands.There (demands.Maps Arc) cap) _ c.in_err-ask_map.ensures))
+    let seen = one_met world (demands.There demands.Views view) c.in_ok-ask_view.ensures in
+    flow_unmet view cap s t world into c.from_residual-in_err-ask_map.result _
+    c.from_residual-in_err-ask_map.ensures.1 (demands.There (demands.Maps Arc) cap) 1 (seen, tt)
+    refl c.in_err-ask_map.ensures
 
 pub returns-in_err-from-clause-meets : goal.returns-in_err-from-clause-meets
 returns-in_err-from-clause-meets g c =
@@ -54,14 +49,11 @@ returns-in_err-from-clause-meets g c =
     let s = c.args.s.now in
     let t = c.args.t.now in
     let into = c.args.into.now in
-    let none : NoneUntil world (flow_parts view cap s t into) 2 = (
-      one_met world (demands.There demands.Views view) c.in_ok-ask_view.ensures,
-      (one_met world (demands.There (demands.Maps Arc) cap) c.in_ok-ask_map.ensures, tt),
-    ) in
-    handed_on (MeetsAll world (demands.demands (commands.MaxFlow view cap s t into)))
-    c.from_residual-in_err-from.result _ c.from_residual-in_err-from.ensures.1
-    (flow_stops view cap s t world into 2 _ none
-    (one_not_met world (demands.There (demands.NodesOf view) s) _ c.in_err-from.ensures.meets))
+    let seen = one_met world (demands.There demands.Views view) c.in_ok-ask_view.ensures in
+    let there = one_met world (demands.There (demands.Maps Arc) cap) c.in_ok-ask_map.ensures in
+    flow_unmet view cap s t world into c.from_residual-in_err-from.result _
+    c.from_residual-in_err-from.ensures.1 (demands.There (demands.NodesOf view) s) 2
+    (seen, (there, tt)) refl c.in_err-from.ensures.meets
 
 pub returns-in_err-to-clause-meets : goal.returns-in_err-to-clause-meets
 returns-in_err-to-clause-meets g c =
@@ -72,17 +64,13 @@ returns-in_err-to-clause-meets g c =
     let s = c.args.s.now in
     let t = c.args.t.now in
     let into = c.args.into.now in
-    let none : NoneUntil world (flow_parts view cap s t into) 3 = (
-      one_met world (demands.There demands.Views view) c.in_ok-ask_view.ensures,
-      (
-        one_met world (demands.There (demands.Maps Arc) cap) c.in_ok-ask_map.ensures,
-        (one_met world (demands.There (demands.NodesOf view) s) c.in_ok-from.ensures.meets, tt),
-      ),
-    ) in
-    handed_on (MeetsAll world (demands.demands (commands.MaxFlow view cap s t into)))
-    c.from_residual-in_err-to.result _ c.from_residual-in_err-to.ensures.1
-    (flow_stops view cap s t world into 3 _ none
-    (one_not_met world (demands.There (demands.NodesOf view) t) _ c.in_err-to.ensures.meets))
+    let seen = one_met world (demands.There demands.Views view) c.in_ok-ask_view.ensures in
+    let there = one_met world (demands.There (demands.Maps Arc) cap) c.in_ok-ask_map.ensures in
+    let from = one_met world (demands.There (demands.NodesOf view) s)
+    c.in_ok-from.ensures.meets in
+    flow_unmet view cap s t world into c.from_residual-in_err-to.result _
+    c.from_residual-in_err-to.ensures.1 (demands.There (demands.NodesOf view) t) 3
+    (seen, (there, (from, tt))) refl c.in_err-to.ensures.meets
 
 pub returns-in_err-ask_given-clause-meets : goal.returns-in_err-ask_given-clause-meets
 returns-in_err-ask_given-clause-meets g c =
@@ -93,20 +81,10 @@ returns-in_err-ask_given-clause-meets g c =
     let s = c.args.s.now in
     let t = c.args.t.now in
     let into = c.args.into.now in
-    let none : NoneUntil world (flow_parts view cap s t into) 4 = (
-      one_met world (demands.There demands.Views view) c.in_ok-ask_view.ensures,
-      (
-        one_met world (demands.There (demands.Maps Arc) cap) c.in_ok-ask_map.ensures,
-        (
-          one_met world (demands.There (demands.NodesOf view) s) c.in_ok-from.ensures.meets,
-          (one_met world (demands.There (demands.NodesOf view) t) c.in_ok-to.ensures.meets, tt),
-        ),
-      ),
-    ) in
-    handed_on (MeetsAll world (demands.demands (commands.MaxFlow view cap s t into)))
-    c.from_residual-in_err-ask_given.result _ c.from_residual-in_err-ask_given.ensures.1
-    (flow_stops view cap s t world into 4 _ none
-    c.in_err-ask_given.ensures)
+    let names = names_met view cap s t world into c.in_ok-ask_view.ensures
+    c.in_ok-ask_map.ensures c.in_ok-from.ensures.meets c.in_ok-to.ensures.meets in
+    part_unmet view cap s t world into c.from_residual-in_err-ask_given.result _
+    c.from_residual-in_err-ask_given.ensures.1 4 names c.in_err-ask_given.ensures
 
 pub returns-in_err-ask_type-clause-meets : goal.returns-in_err-ask_type-clause-meets
 returns-in_err-ask_type-clause-meets g c =
@@ -117,23 +95,13 @@ returns-in_err-ask_type-clause-meets g c =
     let s = c.args.s.now in
     let t = c.args.t.now in
     let into = c.args.into.now in
-    let none : NoneUntil world (flow_parts view cap s t into) 5 = (
-      one_met world (demands.There demands.Views view) c.in_ok-ask_view.ensures,
-      (
-        one_met world (demands.There (demands.Maps Arc) cap) c.in_ok-ask_map.ensures,
-        (
-          one_met world (demands.There (demands.NodesOf view) s) c.in_ok-from.ensures.meets,
-          (
-            one_met world (demands.There (demands.NodesOf view) t) c.in_ok-to.ensures.meets,
-            (c.in_ok-ask_given.ensures, tt),
-          ),
-        ),
-      ),
-    ) in
-    handed_on (MeetsAll world (demands.demands (commands.MaxFlow view cap s t into)))
-    c.from_residual-in_err-ask_type.result _ c.from_residual-in_err-ask_type.ensures.1
-    (flow_stops view cap s t world into 5 _ none
-    (one_not_met world (demands.HasType Arc Ints cap) _ c.in_err-ask_type.ensures))
+    let names = names_met view cap s t world into c.in_ok-ask_view.ensures
+    c.in_ok-ask_map.ensures c.in_ok-from.ensures.meets c.in_ok-to.ensures.meets in
+    let given = met_next world (flow_parts view cap s t into) 4 names
+    c.in_ok-ask_given.ensures in
+    flow_unmet view cap s t world into c.from_residual-in_err-ask_type.result _
+    c.from_residual-in_err-ask_type.ensures.1 (demands.HasType Arc Ints cap) 5 given refl
+    c.in_err-ask_type.ensures
 
 pub returns-in_err-ask_given_flow-clause-meets : goal.returns-in_err-ask_given_flow-clause-meets
 returns-in_err-ask_given_flow-clause-meets g c =
@@ -144,26 +112,14 @@ returns-in_err-ask_given_flow-clause-meets g c =
     let s = c.args.s.now in
     let t = c.args.t.now in
     let into = c.args.into.now in
-    let none : NoneUntil world (flow_parts view cap s t into) 6 = (
-      one_met world (demands.There demands.Views view) c.in_ok-ask_view.ensures,
-      (
-        one_met world (demands.There (demands.Maps Arc) cap) c.in_ok-ask_map.ensures,
-        (
-          one_met world (demands.There (demands.NodesOf view) s) c.in_ok-from.ensures.meets,
-          (
-            one_met world (demands.There (demands.NodesOf view) t) c.in_ok-to.ensures.meets,
-            (
-              c.in_ok-ask_given.ensures,
-              (one_met world (demands.HasType Arc Ints cap) c.in_ok-ask_type.ensures, tt),
-            ),
-          ),
-        ),
-      ),
-    ) in
-    handed_on (MeetsAll world (demands.demands (commands.MaxFlow view cap s t into)))
-    c.from_residual-in_err-ask_given_flow.result _ c.from_residual-in_err-ask_given_flow.ensures.1
-    (flow_stops view cap s t world into 6 _ none
-    c.in_err-ask_given_flow.ensures)
+    let names = names_met view cap s t world into c.in_ok-ask_view.ensures
+    c.in_ok-ask_map.ensures c.in_ok-from.ensures.meets c.in_ok-to.ensures.meets in
+    let given = met_next world (flow_parts view cap s t into) 4 names
+    c.in_ok-ask_given.ensures in
+    let typed = met_next world (flow_parts view cap s t into) 5 given
+    (one_met world (demands.HasType Arc Ints cap) c.in_ok-ask_type.ensures) in
+    part_unmet view cap s t world into c.from_residual-in_err-ask_given_flow.result _
+    c.from_residual-in_err-ask_given_flow.ensures.1 6 typed c.in_err-ask_given_flow.ensures
 
 pub returns-in_err-asked-clause-meets : goal.returns-in_err-asked-clause-meets
 returns-in_err-asked-clause-meets g c =
@@ -174,29 +130,13 @@ returns-in_err-asked-clause-meets g c =
     let s = c.args.s.now in
     let t = c.args.t.now in
     let into = c.args.into.now in
-    let none : NoneUntil world (flow_parts view cap s t into) 7 = (
-      one_met world (demands.There demands.Views view) c.in_ok-ask_view.ensures,
-      (
-        one_met world (demands.There (demands.Maps Arc) cap) c.in_ok-ask_map.ensures,
-        (
-          one_met world (demands.There (demands.NodesOf view) s) c.in_ok-from.ensures.meets,
-          (
-            one_met world (demands.There (demands.NodesOf view) t) c.in_ok-to.ensures.meets,
-            (
-              c.in_ok-ask_given.ensures,
-              (
-                one_met world (demands.HasType Arc Ints cap) c.in_ok-ask_type.ensures,
-                (c.in_ok-ask_given_flow.ensures, tt),
-              ),
-            ),
-          ),
-        ),
-      ),
-    ) in
-    handed_on (MeetsAll world (demands.demands (commands.MaxFlow view cap s t into)))
-    c.from_residual-in_err-asked.result _ c.from_residual-in_err-asked.ensures.1
-    (flow_stops view cap s t world into 7 _ none
-    (one_not_met world (demands.IsSmall view) _ c.in_err-asked.ensures.meets))
+    let names = names_met view cap s t world into c.in_ok-ask_view.ensures
+    c.in_ok-ask_map.ensures c.in_ok-from.ensures.meets c.in_ok-to.ensures.meets in
+    let maps = maps_met view cap s t world into names c.in_ok-ask_given.ensures
+    c.in_ok-ask_type.ensures c.in_ok-ask_given_flow.ensures in
+    flow_unmet view cap s t world into c.from_residual-in_err-asked.result _
+    c.from_residual-in_err-asked.ensures.1 (demands.IsSmall view) 7 maps refl
+    c.in_err-asked.ensures.meets
 
 pub returns-in_err-ask_differ-clause-meets : goal.returns-in_err-ask_differ-clause-meets
 returns-in_err-ask_differ-clause-meets g c =
@@ -207,32 +147,15 @@ returns-in_err-ask_differ-clause-meets g c =
     let s = c.args.s.now in
     let t = c.args.t.now in
     let into = c.args.into.now in
-    let none : NoneUntil world (flow_parts view cap s t into) 8 = (
-      one_met world (demands.There demands.Views view) c.in_ok-ask_view.ensures,
-      (
-        one_met world (demands.There (demands.Maps Arc) cap) c.in_ok-ask_map.ensures,
-        (
-          one_met world (demands.There (demands.NodesOf view) s) c.in_ok-from.ensures.meets,
-          (
-            one_met world (demands.There (demands.NodesOf view) t) c.in_ok-to.ensures.meets,
-            (
-              c.in_ok-ask_given.ensures,
-              (
-                one_met world (demands.HasType Arc Ints cap) c.in_ok-ask_type.ensures,
-                (
-                  c.in_ok-ask_given_flow.ensures,
-                  (one_met world (demands.IsSmall view) c.in_ok-asked.ensures.meets, tt),
-                ),
-              ),
-            ),
-          ),
-        ),
-      ),
-    ) in
-    handed_on (MeetsAll world (demands.demands (commands.MaxFlow view cap s t into)))
-    c.from_residual-in_err-ask_differ.result _ c.from_residual-in_err-ask_differ.ensures.1
-    (flow_stops view cap s t world into 8 _ none
-    (one_not_met world (demands.Differ s t) _ (c.in_err-ask_differ.ensures world)))
+    let names = names_met view cap s t world into c.in_ok-ask_view.ensures
+    c.in_ok-ask_map.ensures c.in_ok-from.ensures.meets c.in_ok-to.ensures.meets in
+    let maps = maps_met view cap s t world into names c.in_ok-ask_given.ensures
+    c.in_ok-ask_type.ensures c.in_ok-ask_given_flow.ensures in
+    let small = met_next world (flow_parts view cap s t into) 7 maps
+    (one_met world (demands.IsSmall view) c.in_ok-asked.ensures.meets) in
+    flow_unmet view cap s t world into c.from_residual-in_err-ask_differ.result _
+    c.from_residual-in_err-ask_differ.ensures.1 (demands.Differ s t) 8 small refl
+    (c.in_err-ask_differ.ensures world)
 
 pub returns-in_err-caps-clause-meets : goal.returns-in_err-caps-clause-meets
 returns-in_err-caps-clause-meets g c =
@@ -243,38 +166,17 @@ returns-in_err-caps-clause-meets g c =
     let s = c.args.s.now in
     let t = c.args.t.now in
     let into = c.args.into.now in
-    let none : NoneUntil world (flow_parts view cap s t into) 9 = (
-      one_met world (demands.There demands.Views view) c.in_ok-ask_view.ensures,
-      (
-        one_met world (demands.There (demands.Maps Arc) cap) c.in_ok-ask_map.ensures,
-        (
-          one_met world (demands.There (demands.NodesOf view) s) c.in_ok-from.ensures.meets,
-          (
-            one_met world (demands.There (demands.NodesOf view) t) c.in_ok-to.ensures.meets,
-            (
-              c.in_ok-ask_given.ensures,
-              (
-                one_met world (demands.HasType Arc Ints cap) c.in_ok-ask_type.ensures,
-                (
-                  c.in_ok-ask_given_flow.ensures,
-                  (
-                    one_met world (demands.IsSmall view) c.in_ok-asked.ensures.meets,
-                    (one_met world (demands.Differ s t) (c.in_ok-ask_differ.ensures world), tt),
-                  ),
-                ),
-              ),
-            ),
-          ),
-        ),
-      ),
-    ) in
+    let names = names_met view cap s t world into c.in_ok-ask_view.ensures
+    c.in_ok-ask_map.ensures c.in_ok-from.ensures.meets c.in_ok-to.ensures.meets in
+    let maps = maps_met view cap s t world into names c.in_ok-ask_given.ensures
+    c.in_ok-ask_type.ensures c.in_ok-ask_given_flow.ensures in
+    let nodes = nodes_met view cap s t world into maps c.in_ok-asked.ensures.meets
+    (c.in_ok-ask_differ.ensures world) in
     let fault = c.in_err-caps.field-0.0 in
-    handed_on (MeetsAll world (demands.demands (commands.MaxFlow view cap s t into)))
-    c.from_residual-in_err-caps.result fault c.from_residual-in_err-caps.ensures.1
-    (flow_stops view cap s t world into 9 fault none
-    (one_not_met world (demands.ArcsInRange view cap) fault
+    flow_unmet view cap s t world into c.from_residual-in_err-caps.result fault
+    c.from_residual-in_err-caps.ensures.1 (demands.ArcsInRange view cap) 9 nodes refl
     (subst (λ v. Is (breach world (demands.ArcsInRange v cap)) fault) c.in_ok-asked.ensures.view
-    c.in_err-caps.ensures.meets)))
+    c.in_err-caps.ensures.meets)
 
 pub ask_at_least-requires : goal.ask_at_least-requires
 ask_at_least-requires g c = record {
@@ -292,44 +194,22 @@ returns-in_err-ask_at_least-clause-meets g c =
     let s = c.args.s.now in
     let t = c.args.t.now in
     let into = c.args.into.now in
-    let in_range = subst (λ v. breach world (demands.ArcsInRange v cap) ≡ None)
+    let names = names_met view cap s t world into c.in_ok-ask_view.ensures
+    c.in_ok-ask_map.ensures c.in_ok-from.ensures.meets c.in_ok-to.ensures.meets in
+    let maps = maps_met view cap s t world into names c.in_ok-ask_given.ensures
+    c.in_ok-ask_type.ensures c.in_ok-ask_given_flow.ensures in
+    let nodes = nodes_met view cap s t world into maps c.in_ok-asked.ensures.meets
+    (c.in_ok-ask_differ.ensures world) in
+    let within = subst (λ v. breach world (demands.ArcsInRange v cap) ≡ None)
     c.in_ok-asked.ensures.view c.in_ok-caps.ensures.meets in
-    let none : NoneUntil world (flow_parts view cap s t into) 10 = (
-      one_met world (demands.There demands.Views view) c.in_ok-ask_view.ensures,
-      (
-        one_met world (demands.There (demands.Maps Arc) cap) c.in_ok-ask_map.ensures,
-        (
-          one_met world (demands.There (demands.NodesOf view) s) c.in_ok-from.ensures.meets,
-          (
-            one_met world (demands.There (demands.NodesOf view) t) c.in_ok-to.ensures.meets,
-            (
-              c.in_ok-ask_given.ensures,
-              (
-                one_met world (demands.HasType Arc Ints cap) c.in_ok-ask_type.ensures,
-                (
-                  c.in_ok-ask_given_flow.ensures,
-                  (
-                    one_met world (demands.IsSmall view) c.in_ok-asked.ensures.meets,
-                    (
-                      one_met world (demands.Differ s t) (c.in_ok-ask_differ.ensures world),
-                      (one_met world (demands.ArcsInRange view cap) in_range, tt),
-                    ),
-                  ),
-                ),
-              ),
-            ),
-          ),
-        ),
-      ),
-    ) in
+    let all = met_next world (flow_parts view cap s t into) 9 nodes
+    (one_met world (demands.ArcsInRange view cap) within) in
     let fault = c.in_err-ask_at_least.field-0.0 in
-    handed_on (MeetsAll world (demands.demands (commands.MaxFlow view cap s t into)))
-    c.from_residual-in_err-ask_at_least.result fault c.from_residual-in_err-ask_at_least.ensures.1
-    (flow_stops view cap s t world into 10 fault none
-    (one_not_met world (demands.ArcsAtLeast view 0 cap) fault
+    flow_unmet view cap s t world into c.from_residual-in_err-ask_at_least.result fault
+    c.from_residual-in_err-ask_at_least.ensures.1 (demands.ArcsAtLeast view 0 cap) 10 all refl
     (subst (λ v. Is (breach world (demands.ArcsAtLeast v 0 cap)) fault)
     c.in_ok-asked.ensures.view (c.in_err-ask_at_least.ensures.meets cap
-    (c.as_slice.ensures.value ∙ c.in_ok-caps.ensures.ints)))))
+    (c.as_slice.ensures.value ∙ c.in_ok-caps.ensures.ints)))
 
 pub returns-clause-meets : goal.returns-clause-meets
 returns-clause-meets g c =
@@ -340,42 +220,18 @@ returns-clause-meets g c =
     let s = c.args.s.now in
     let t = c.args.t.now in
     let into = c.args.into.now in
-    let in_range = subst (λ v. breach world (demands.ArcsInRange v cap) ≡ None)
+    let names = names_met view cap s t world into c.in_ok-ask_view.ensures
+    c.in_ok-ask_map.ensures c.in_ok-from.ensures.meets c.in_ok-to.ensures.meets in
+    let maps = maps_met view cap s t world into names c.in_ok-ask_given.ensures
+    c.in_ok-ask_type.ensures c.in_ok-ask_given_flow.ensures in
+    let nodes = nodes_met view cap s t world into maps c.in_ok-asked.ensures.meets
+    (c.in_ok-ask_differ.ensures world) in
+    let within = subst (λ v. breach world (demands.ArcsInRange v cap) ≡ None)
     c.in_ok-asked.ensures.view c.in_ok-caps.ensures.meets in
-    let least = subst (λ v. breach world (demands.ArcsAtLeast v 0 cap) ≡ None)
+    flow_met view cap s t world into nodes within
+    (subst (λ v. breach world (demands.ArcsAtLeast v 0 cap) ≡ None)
     c.in_ok-asked.ensures.view (c.in_ok-ask_at_least.ensures.meets cap
-    (c.as_slice.ensures.value ∙ c.in_ok-caps.ensures.ints)) in
-    flow_met view cap s t world into (
-      one_met world (demands.There demands.Views view) c.in_ok-ask_view.ensures,
-      (
-        one_met world (demands.There (demands.Maps Arc) cap) c.in_ok-ask_map.ensures,
-        (
-          one_met world (demands.There (demands.NodesOf view) s) c.in_ok-from.ensures.meets,
-          (
-            one_met world (demands.There (demands.NodesOf view) t) c.in_ok-to.ensures.meets,
-            (
-              c.in_ok-ask_given.ensures,
-              (
-                one_met world (demands.HasType Arc Ints cap) c.in_ok-ask_type.ensures,
-                (
-                  c.in_ok-ask_given_flow.ensures,
-                  (
-                    one_met world (demands.IsSmall view) c.in_ok-asked.ensures.meets,
-                    (
-                      one_met world (demands.Differ s t) (c.in_ok-ask_differ.ensures world),
-                      (
-                        one_met world (demands.ArcsInRange view cap) in_range,
-                        (one_met world (demands.ArcsAtLeast view 0 cap) least, tt),
-                      ),
-                    ),
-                  ),
-                ),
-              ),
-            ),
-          ),
-        ),
-      ),
-    )
+    (c.as_slice.ensures.value ∙ c.in_ok-caps.ensures.ints)))
 
 pub returns-clause-takes : goal.returns-clause-takes
 returns-clause-takes g c =

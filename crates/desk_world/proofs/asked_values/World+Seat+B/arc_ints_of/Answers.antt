@@ -11,8 +11,9 @@ use Rattle.desk_seats.specs.contracts.seat.SeatObserver.TheImpl.{watch-value}
 use Rattle.desk_world.specs.AskedViews.{arc_values}
 use Rattle.desk_world.specs.MapNumbers.{numbered}
 use Rattle.desk_world.specs.Plain.{plain_of}
-use Rattle.desk_world.proofs.AskedViews.{arcs_live, arcs_pulled, map_there, arcs_in_range}
-use Rattle.desk_world.proofs.AskedViews.{arc_outside}
+use Rattle.desk_world.proofs.AskedViews.{arcs_live, arcs_pulled, map_there}
+use Rattle.desk_world.proofs.AskedInts.{arcs_in_range}
+use Rattle.desk_world.proofs.AskedInts.{arc_outside}
 use Rattle.desk_world.proofs.asked_values.World+Seat+B.arc_ints_of.Goals as goal
 
 pub arc_ints-requires-clause-map : goal.arc_ints-requires-clause-map

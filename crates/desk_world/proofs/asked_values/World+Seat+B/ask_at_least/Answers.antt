@@ -5,7 +5,7 @@ use Rattle.view_numbers.specs.Breaches.{IsFirst, is_under}
 use Rattle.tower_numbers.proofs.Ranges.{none_under}
 use Rattle.desk_seats.specs.contracts.seat.SeatObserver.TheImpl.{watch-value}
 use Rattle.desk_world.specs.Plain.{plain_of}
-use Rattle.desk_world.proofs.AskedViews.{arcs_at_least, arc_below}
+use Rattle.desk_world.proofs.AskedInts.{arcs_at_least, arc_below}
 use Rattle.desk_world.proofs.asked_values.World+Seat+B.ask_at_least.Goals as goal
 
 pub overflow_cast-arc : goal.overflow_cast-arc

@@ -11,8 +11,9 @@ use Rattle.desk_seats.specs.contracts.seat.SeatObserver.TheImpl.{watch-value}
 use Rattle.desk_world.specs.AskedViews.{node_values}
 use Rattle.desk_world.specs.MapNumbers.{numbered}
 use Rattle.desk_world.specs.Plain.{plain_of}
-use Rattle.desk_world.proofs.AskedViews.{nodes_live, nodes_pulled, map_there, nodes_in_range}
-use Rattle.desk_world.proofs.AskedViews.{node_outside}
+use Rattle.desk_world.proofs.AskedViews.{nodes_live, nodes_pulled, map_there}
+use Rattle.desk_world.proofs.AskedInts.{nodes_in_range}
+use Rattle.desk_world.proofs.AskedInts.{node_outside}
 use Rattle.desk_world.proofs.asked_values.World+Seat+B.node_ints_of.Goals as goal
 
 pub node_ints-requires-clause-map : goal.node_ints-requires-clause-map

@@ -6,8 +6,8 @@ use Rattle.plain_digraph.specs.Items.{IsLive}
 use Rattle.plain_world.proofs.Named.{live_listed}
 use Rattle.desk_seats.specs.contracts.seat.SeatObserver.TheImpl.{watch-value}
 use Rattle.desk_world.specs.Plain.{plain_of}
-use Rattle.desk_world.proofs.FlowWrites.{AreCleared, cleared_first, cleared_next, cleared_last}
-use Rattle.desk_world.proofs.FlowWrites.{cleared_typed}
+use Rattle.desk_world.proofs.FlowSpread.{AreCleared, cleared_first, cleared_next, cleared_last}
+use Rattle.desk_world.proofs.FlowSpread.{cleared_typed}
 use Rattle.desk_world.proofs.Ordered.{live_at}
 use Rattle.desk_world.proofs.flows.World+Seat+B.clear_flow.Goals as goal
 

@@ -2,7 +2,7 @@ use Rattle.std.proofs.Common.{◌≡◌, drop}
 use Rattle.desk_seats.specs.contracts.seat.SeatObserver.TheImpl.{watch-value}
 use Rattle.desk_world.specs.InStep.{AreInStep}
 use Rattle.desk_world.specs.Plain.{plain_of}
-use Rattle.desk_world.proofs.FlowWrites.{AreCleared}
+use Rattle.desk_world.proofs.FlowSpread.{AreCleared}
 use Rattle.desk_world.proofs.flows.World+Seat+B.clear_flow.Given as goal
 
 abbrev pub invariant-loop-id : goal.invariant-loop-id

@@ -12,7 +12,8 @@ use Rattle.desk_seats.specs.contracts.seat.SeatObserver.TheImpl.{watch-value}
 use Rattle.desk_world.specs.Flows.{with_ints, flow_by, with_flow_at}
 use Rattle.desk_world.specs.Plain.{plain_of}
 use Rattle.desk_world.specs.Values.{HasType}
-use Rattle.desk_world.proofs.FlowWrites.{ints_typed, flow_next, all_of_at}
+use Rattle.desk_world.proofs.FlowWrites.{ints_typed}
+use Rattle.desk_world.proofs.FlowSpread.{flow_next, all_of_at}
 use Rattle.desk_world.proofs.flows.World+Seat+B.put_flow.Goals as goal
 
 pub loop-left-init : goal.loop-left-init

@@ -6,7 +6,7 @@ use Rattle.desk_seats.specs.contracts.seat.SeatObserver.TheImpl.{watch-value}
 use Rattle.desk_world.specs.declared.tables.ViewRow.{ViewRow}
 use Rattle.desk_world.specs.Looks.{look_in}
 use Rattle.desk_world.proofs.KeepCommands.{unkept_row, reads_there}
-use Rattle.desk_world.proofs.KeptNew.{new_in_step, new_plain}
+use Rattle.desk_world.proofs.KeptJoins.{new_in_step, new_plain}
 use Rattle.desk_world.proofs.KeptSeats.{maps_sit}
 use Rattle.desk_world.proofs.MapCalls.{if_err}
 use Rattle.desk_world.proofs.NamedRows.{stands}

@@ -3,7 +3,7 @@ use Rattle.std.specs.List.{flat_map}
 use Rattle.desk_seats.specs.contracts.seat.SeatObserver.TheImpl.{watch-value}
 use Rattle.desk_world.specs.Claims.{view_claims}
 use Rattle.desk_world.proofs.KeptGone.{keys_of, seats_stay, has_keys, unkept_in_step, unkept_plain}
-use Rattle.desk_world.proofs.KeptGone.{gone_in_step, gone_plain}
+use Rattle.desk_world.proofs.KeptLeaves.{gone_in_step, gone_plain}
 use Rattle.desk_world.proofs.NamedRows.{stands}
 use Rattle.desk_world.proofs.keeping.World+Seat+B.remove_view.Goals as goal
 

@@ -6,7 +6,7 @@ use Rattle.desk_seats.specs.contracts.seat.SeatObserver.TheImpl.{watch-value}
 use Rattle.desk_world.specs.Faults.{Is}
 use Rattle.desk_world.specs.NodeWords.{Means}
 use Rattle.desk_world.specs.Plain.{plain_of}
-use Rattle.desk_world.proofs.NodeWords.{found_shown, hidden, none_meant}
+use Rattle.desk_world.proofs.WordsRead.{found_shown, hidden, none_meant}
 use Rattle.desk_world.proofs.node_words.World+Seat+B.find_node.Goals as goal
 
 pub returns-then-has_node-clause-found : goal.returns-then-has_node-clause-found

@@ -7,7 +7,7 @@ use Rattle.desk_seats.specs.contracts.seat.SeatObserver.TheImpl.{watch-value}
 use Rattle.desk_world.specs.NodeWords.{IsParted, letters_of}
 use Rattle.desk_world.specs.Plain.{plain_of}
 use Rattle.desk_world.proofs.NodesRaised.{letters_few}
-use Rattle.desk_world.proofs.NodeWords.{no_label, meant_by, own_low}
+use Rattle.desk_world.proofs.WordsRead.{own_low, no_label, meant_by}
 use Rattle.desk_world.proofs.node_words.World+Seat+B.node_meant.Goals as goal
 
 pub node_above-requires-clause-few : goal.node_above-requires-clause-few

@@ -2,8 +2,8 @@ use Rattle.std.proofs.Common.{◌+◌, ◌≤◌, length, sym, subst, arith}
 use Rattle.desk_seats.specs.declared.seat.Seat.{Seat}
 use Rattle.desk_seats.specs.contracts.seat.SeatObserver.TheImpl.{watch-value}
 use Rattle.desk_world.specs.declared.world.World.{World}
-use Rattle.desk_world.proofs.Placings.{IsPlacing, maps_there, seat_there, placing_passes}
-use Rattle.desk_world.proofs.Placings.{placing_steps, placing_ends, placing_plain}
+use Rattle.desk_world.proofs.PlacedWalk.{IsPlacing, maps_there, seat_there, placing_passes}
+use Rattle.desk_world.proofs.PlacedWalk.{placing_steps, placing_ends, placing_plain}
 use Rattle.desk_world.proofs.placing.World+Seat+B.place_anew.Goals as goal
 use Rattle.desk_world.proofs.placing.World+Seat+B.place_anew.Goals.{in-Some, in_default}
 

@@ -1,5 +1,5 @@
 use Rattle.desk_seats.specs.contracts.seat.SeatObserver.TheImpl.{watch-value}
-use Rattle.desk_world.proofs.Placings.{IsPlacing}
+use Rattle.desk_world.proofs.PlacedWalk.{IsPlacing}
 use Rattle.desk_world.proofs.placing.World+Seat+B.place_anew.Given as goal
 
 abbrev pub invariant-loop-place : goal.invariant-loop-place

@@ -6,7 +6,7 @@ use Rattle.desk_seats.specs.contracts.seat.SeatObserver.TheImpl.{watch-value}
 use Rattle.desk_world.specs.declared.tables.ItemTables.{ItemTables}
 use Rattle.desk_world.specs.declared.tables.MapKind.{MapKind}
 use Rattle.desk_world.specs.declared.tables.MapRow.{MapRow}
-use Rattle.desk_world.proofs.RetypeSteps.{row_there, row_seen, taken}
+use Rattle.desk_world.proofs.RetypeRows.{row_there, row_seen, taken}
 use Rattle.desk_world.proofs.retyping.World+Seat+B.put_values.Goals as goal
 
 pub unreachable-requires : goal.unreachable-requires

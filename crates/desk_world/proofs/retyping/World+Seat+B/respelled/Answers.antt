@@ -10,8 +10,8 @@ use Rattle.desk_world.specs.Faults.{Meets}
 use Rattle.desk_world.specs.Plain.{plain_of}
 use Rattle.desk_world.proofs.Handed.{handed_on}
 use Rattle.desk_world.proofs.Ordered.{live_at}
-use Rattle.desk_world.proofs.RetypeSteps.{row_there, row_listed, row_own, starts, walk_role}
-use Rattle.desk_world.proofs.RetypeSteps.{walk_item, walk_on, stops, ends_met, ends_spelled, Walked}
+use Rattle.desk_world.proofs.RetypeRows.{row_there, row_listed, row_own, starts, walk_role}
+use Rattle.desk_world.proofs.RetypeRows.{walk_item, walk_on, stops, ends_met, ends_spelled, Walked}
 use Rattle.desk_world.proofs.retyping.World+Seat+B.respelled.Goals as goal
 
 pub unreachable-requires : goal.unreachable-requires

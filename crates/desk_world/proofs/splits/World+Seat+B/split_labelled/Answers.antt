@@ -16,7 +16,7 @@ use Rattle.desk_world.proofs.EditsDone.{stamps_stay, veto_is}
 use Rattle.desk_world.proofs.SplitDone.{after_all, after_node, split_met, node_met, takes}
 use Rattle.desk_world.proofs.SplitSteps.{split_has_room, split_makes, split_sure, split_takes}
 use Rattle.desk_world.proofs.SplitSteps.{node_room, off_makes}
-use Rattle.desk_world.proofs.Takes.{takes_node_split}
+use Rattle.desk_world.proofs.TakesAll.{takes_node_split}
 use Rattle.desk_world.proofs.splits.World+Seat+B.split_labelled.Goals as goal
 
 pub refusal-requires : goal.refusal-requires

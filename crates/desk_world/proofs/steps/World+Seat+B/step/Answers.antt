@@ -616,7 +616,7 @@ returns-in-MaxFlow g c =
     let old = plain_of w c.args.self.now in
     let new = plain_of w c.flow.new.self in
     let asked = commands.MaxFlow c.in-MaxFlow.view c.in-MaxFlow.cap c.in-MaxFlow.s
-        c.in-MaxFlow.t c.in-MaxFlow.into in
+    c.in-MaxFlow.t c.in-MaxFlow.into in
     record {
       answered = answered_by old new c.args.command.now asked c.in-MaxFlow.is c.flow.result
           c.flow.ensures.step;
@@ -635,7 +635,7 @@ returns-in-Circulate g c =
     let old = plain_of w c.args.self.now in
     let new = plain_of w c.circulation.new.self in
     let asked = commands.Circulate c.in-Circulate.view c.in-Circulate.low c.in-Circulate.up
-        c.in-Circulate.supply c.in-Circulate.into in
+    c.in-Circulate.supply c.in-Circulate.into in
     record {
       answered = answered_by old new c.args.command.now asked c.in-Circulate.is c.circulation.result
           c.circulation.ensures.step;
@@ -654,7 +654,7 @@ returns-in-MinCost g c =
     let old = plain_of w c.args.self.now in
     let new = plain_of w c.cheapest.new.self in
     let asked = commands.MinCost c.in-MinCost.view c.in-MinCost.low c.in-MinCost.up
-        c.in-MinCost.cost c.in-MinCost.supply c.in-MinCost.into in
+    c.in-MinCost.cost c.in-MinCost.supply c.in-MinCost.into in
     record {
       answered = answered_by old new c.args.command.now asked c.in-MinCost.is c.cheapest.result
           c.cheapest.ensures.less;
@@ -673,7 +673,7 @@ returns-in-Simplex g c =
     let old = plain_of w c.args.self.now in
     let new = plain_of w c.cheapest-in-Simplex.new.self in
     let asked = commands.Simplex c.in-Simplex.view c.in-Simplex.low c.in-Simplex.up
-        c.in-Simplex.cost c.in-Simplex.supply c.in-Simplex.into in
+    c.in-Simplex.cost c.in-Simplex.supply c.in-Simplex.into in
     record {
       answered = answered_by old new c.args.command.now asked c.in-Simplex.is
           c.cheapest-in-Simplex.result c.cheapest-in-Simplex.ensures.step;

@@ -5,7 +5,7 @@ use Rattle.std.proofs.lemmas.List.{take_all}
 use Rattle.plain_world.specs.Tables.{Named, under}
 use Rattle.desk_world.specs.declared.tables.ViewRow.{ViewRow}
 use Rattle.desk_world.proofs.TableRows.{found_at, none_more, row_at, some_row}
-use Rattle.desk_world.proofs.views.World+Seat+B.standing_on.Goals as goal
+use Rattle.desk_world.proofs.view_demands.World+Seat+B.standing_on.Goals as goal
 
 pub returns-then-eq : goal.returns-then-eq
 returns-then-eq g c =

@@ -1,7 +1,7 @@
 use Rattle.desk_seats.specs.contracts.seat.SeatObserver.TheImpl.{watch-value}
 use Rattle.alter_graph.specs.State.{state_of}
 use Rattle.desk_world.proofs.KeptSeated.{maps_come, nodes_sit, maps_next, arcs_sit, all_kept}
-use Rattle.desk_world.proofs.keeping.attach_kept.Goals as goal
+use Rattle.desk_world.proofs.kept_seats.attach_kept.Goals as goal
 
 pub place_all-requires : goal.place_all-requires
 place_all-requires g c =

@@ -3,7 +3,7 @@ use Rattle.std.specs.Option.{option_copied}
 use Rattle.desk_seats.specs.contracts.seat.SeatObserver.TheImpl.{watch-value}
 use Rattle.desk_world.specs.Faults.{Is}
 use Rattle.desk_world.proofs.ViewCommands.{stands_on}
-use Rattle.desk_world.proofs.views.World+Seat+B.ask_alone.Goals as goal
+use Rattle.desk_world.proofs.view_demands.World+Seat+B.ask_alone.Goals as goal
 
 pub returns-in-Some : goal.returns-in-Some
 returns-in-Some g c =

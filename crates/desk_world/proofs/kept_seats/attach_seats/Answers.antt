@@ -6,7 +6,7 @@ use Rattle.desk_seats.specs.declared.seat.Seat.TheVariants.{KeptNodes, KeptArcs}
 use Rattle.desk_seats.specs.contracts.seat.SeatObserver.TheImpl.{watch-value}
 use Rattle.desk_world.proofs.KeptComing.{new_nodes, new_arcs, nodes_untold, arcs_untold}
 use Rattle.desk_world.proofs.KeptComing.{opposite, seats_come, taken_back}
-use Rattle.desk_world.proofs.keeping.attach_seats.Goals as goal
+use Rattle.desk_world.proofs.kept_seats.attach_seats.Goals as goal
 
 pub returns-in-Ok-clause-came : goal.returns-in-Ok-clause-came
 returns-in-Ok-clause-came g c =

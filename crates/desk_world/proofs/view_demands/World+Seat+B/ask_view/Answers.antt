@@ -2,7 +2,7 @@ use Rattle.std.proofs.Common.{true, false, sym, subst, ◌∙◌}
 use Rattle.desk_seats.specs.contracts.seat.SeatObserver.TheImpl.{watch-value}
 use Rattle.desk_world.specs.Faults.{Is}
 use Rattle.desk_world.proofs.ViewCommands.{row_there}
-use Rattle.desk_world.proofs.views.World+Seat+B.ask_view.Goals as goal
+use Rattle.desk_world.proofs.view_demands.World+Seat+B.ask_view.Goals as goal
 
 pub returns-then-has : goal.returns-then-has
 returns-then-has g c =

@@ -1,6 +1,6 @@
 use Rattle.desk_seats.specs.contracts.seat.SeatObserver.TheImpl.{watch-value}
 use Rattle.desk_world.proofs.PlacedAll.{IsPlacingAll}
-use Rattle.desk_world.proofs.keeping.place_all.Given as goal
+use Rattle.desk_world.proofs.kept_seats.place_all.Given as goal
 
 abbrev pub invariant-loop-id : goal.invariant-loop-id
 invariant-loop-id g l =

@@ -6,8 +6,8 @@ use Rattle.desk_seats.specs.contracts.seat.SeatObserver.TheImpl.{watch-value}
 use Rattle.desk_world.proofs.PlacedAll.{IsPlacingAll, all_begins, all_passes, all_steps, all_ends}
 use Rattle.desk_world.proofs.PlacedAll.{own_sits, maps_there}
 use Rattle.desk_world.proofs.RowPlaces.{some_told, none_told}
-use Rattle.desk_world.proofs.keeping.place_all.Goals as goal
-use Rattle.desk_world.proofs.keeping.place_all.Goals.{then-is_some, else-is_some}
+use Rattle.desk_world.proofs.kept_seats.place_all.Goals as goal
+use Rattle.desk_world.proofs.kept_seats.place_all.Goals.{then-is_some, else-is_some}
 
 pub loop-id-init : goal.loop-id-init
 loop-id-init g c =
